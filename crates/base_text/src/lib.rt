@@ -1,0 +1,15 @@
+//! Reads texts that come as bytes: lines, words between spaces, and numbers. It also holds `Bytes`,
+//! a list of bytes that grows.
+#![tactic(auto)]
+
+mod cutting;
+mod growing;
+mod numbers;
+mod signs;
+#[cfg(test)]
+mod tests;
+
+pub use cutting::{cut, next_line, word};
+pub use growing::Bytes;
+pub use numbers::number;
+pub use signs::signed_number;

@@ -1,0 +1,138 @@
+use crate::{Bytes, cut, next_line, number, signed_number, word};
+use std::test::Fail;
+
+// What `cut` gives, with its parts or none.
+type Cut<'a> = Option<(&'a [u8], &'a [u8])>;
+
+#[test]
+fn cuts_at_the_first_separator(rt: HostRuntime) {
+    let cases: [(&[u8], Cut); 5] = [
+        (b"1:2:3", Some((b"1", b"2:3"))),
+        (b":7", Some((b"", b"7"))),
+        (b"7:", Some((b"7", b""))),
+        (b"", None),
+        (b"1;2", None),
+    ];
+    for (text, want) in cases {
+        assert!(rt; cut(text, b':') == want);
+    }
+}
+
+#[test]
+fn counts_empty_words_between_spaces(rt: HostRuntime) {
+    let cases: [(&[u8], usize, Option<&[u8]>); 11] = [
+        (b"mine metal 4", 0, Some(b"mine")),
+        (b"mine metal 4", 2, Some(b"4")),
+        (b"mine metal 4", 3, None),
+        (b"a  b", 1, Some(b"")),
+        (b"a  b", 2, Some(b"b")),
+        (b" a", 0, Some(b"")),
+        (b" a", 1, Some(b"a")),
+        (b"a ", 1, Some(b"")),
+        (b"a ", 2, None),
+        (b"", 0, Some(b"")),
+        (b"", 1, None),
+    ];
+    for (line, k, want) in cases {
+        assert!(rt; word(line, k) == want);
+    }
+}
+
+#[test]
+fn numbers_stop_at_the_bound(rt: HostRuntime) {
+    let cases: [(&[u8], u64, Option<u64>); 9] = [
+        (b"0", 0, Some(0)),
+        (b"499", 499, Some(499)),
+        (b"500", 499, None),
+        (b"9", 8, None),
+        (b"18446744073709551615", u64::MAX, Some(u64::MAX)),
+        (b"18446744073709551616", u64::MAX, None),
+        (b"99999999999999999999", u64::MAX, None),
+        (b"100000000000000000000000000000", u64::MAX, None),
+        (b"1000", 100, None),
+    ];
+    for (text, most, want) in cases {
+        assert!(rt; number(text, most) == want);
+    }
+}
+
+#[test]
+fn numbers_have_one_spelling(rt: HostRuntime) {
+    let cases: [&[u8]; 12] = [
+        b"", b"00", b"007", b"+7", b"-7", b"7 ", b" 7", b"7a", b"0x7", b"\xb2", b"1\xff", b"1\x00",
+    ];
+    for text in cases {
+        assert!(rt; number(text, u64::MAX) == None);
+    }
+}
+
+#[test]
+fn signed_numbers_stay_in_range(rt: HostRuntime) {
+    let cases: [(&[u8], i16, i16, Option<i16>); 14] = [
+        (b"-130", -130, 260, Some(-130)),
+        (b"-131", -130, 260, None),
+        (b"260", -130, 260, Some(260)),
+        (b"261", -130, 260, None),
+        (b"0", -130, 260, Some(0)),
+        (b"-0", -130, 260, None),
+        (b"-", -130, 260, None),
+        (b"--1", -130, 260, None),
+        (b"+1", -130, 260, None),
+        (b"-01", -130, 260, None),
+        (b"-32768", i16::MIN, i16::MAX, Some(i16::MIN)),
+        (b"32767", i16::MIN, i16::MAX, Some(i16::MAX)),
+        (b"32768", i16::MIN, i16::MAX, None),
+        (b"5", 6, 4, None),
+    ];
+    for (text, least, most, want) in cases {
+        assert!(rt; signed_number(text, least, most) == want);
+    }
+}
+
+#[test]
+fn lines_end_at_line_feeds(rt: HostRuntime) {
+    let cases: [(&[u8], Cut); 11] = [
+        (b"", None),
+        (b"one\ntwo", Some((b"one", b"two"))),
+        (b"one\r\ntwo", Some((b"one", b"two"))),
+        (b"one\r\r\n", Some((b"one\r", b""))),
+        (b"one\rtwo\n", Some((b"one\rtwo", b""))),
+        (b"one\r", Some((b"one\r", b""))),
+        (b"one", Some((b"one", b""))),
+        (b"\n\n", Some((b"", b"\n"))),
+        (b"\r\n", Some((b"", b""))),
+        (b"\n", Some((b"", b""))),
+        (b"\x00\xff\n\x00", Some((b"\x00\xff", b"\x00"))),
+    ];
+    for (text, want) in cases {
+        assert!(rt; next_line(text) == want);
+    }
+}
+
+#[test]
+fn bytes_grow_line_by_line(rt: HostRuntime) -> Result<(), Fail> {
+    let mut bytes = Bytes::new(rt.alloc());
+    assert!(rt; bytes.is_empty());
+    bytes.push(b"ok ")?;
+    bytes.push_line(b"7")?;
+    bytes.push_line(b"")?;
+    bytes.push_line(b"end")?;
+    assert!(rt; bytes.as_slice() == b"ok 7\n\nend\n".as_slice());
+    assert_eq!(rt; bytes.len(), 10);
+    bytes.clear();
+    bytes.push_line(b"again")?;
+    assert!(rt; bytes.as_slice() == b"again\n".as_slice());
+    Ok(())
+}
+
+#[test]
+fn bytes_take_over_what_is_there(rt: HostRuntime) -> Result<(), Fail> {
+    let from_vec = Bytes::from_vec(b"abc".to_vec(rt.alloc())?);
+    let from_string = Bytes::from_string(String::from_str(rt.alloc(), "abc")?);
+    let mut pushed = Bytes::with_capacity(rt.alloc(), 3)?;
+    pushed.push(b"abc")?;
+    assert!(rt; from_vec == from_string);
+    assert!(rt; from_string == pushed);
+    assert!(rt; pushed.into_vec().as_slice() == b"abc".as_slice());
+    Ok(())
+}

@@ -1,0 +1,35 @@
+-- One second of production, all stocks in grains of 1/3600 unit.
+use Rattle.std.specs.Prelude.{ℕ, ◌+◌, ◌*◌, ◌/◌, ◌≤◌, min, nat_lt, if◌then◌else◌}
+use Rattle.rates.specs.declared.stock.TheConstants.{CAP, GRAINS, STORAGE}
+use Rattle.rates.specs.declared.resources.Resources.{Resources}
+
+-- below its limit a stock gains the hourly yield and is cut at the limit; at or above its limit it stays
+abbrev pub gain_once : ℕ → ℕ → ℕ → ℕ
+gain_once limit hourly grains = if nat_lt grains limit then min (grains + hourly) limit else grains
+
+-- what a planet yields an hour, in units: the basic income, which grows with the universe's speed
+abbrev pub hourly_yield : ℕ → Resources
+hourly_yield speed = record { metal = 20 * speed; crystal = 10 * speed; deuterium = 0 }
+
+-- what a planet stores, in units: it has no stores beyond the room that each has
+abbrev pub stored : Resources
+stored = record { metal = STORAGE; crystal = STORAGE; deuterium = STORAGE }
+
+-- the whole units of stocks, floored
+abbrev pub whole : Resources → Resources
+whole stock = record { metal = stock.metal / GRAINS; crystal = stock.crystal / GRAINS; deuterium = stock.deuterium / GRAINS }
+
+-- one second of a planet: each of its stocks gains its hourly yield, up to the room in its store
+abbrev pub stocks_second : ℕ → Resources → Resources
+stocks_second speed stock =
+    record {
+      metal = gain_once (GRAINS * stored.metal) (hourly_yield speed).metal stock.metal;
+      crystal = gain_once (GRAINS * stored.crystal) (hourly_yield speed).crystal stock.crystal;
+      deuterium = gain_once (GRAINS * stored.deuterium) (hourly_yield speed).deuterium stock.deuterium;
+    }
+
+-- no stock holds more than CAP units
+pub record IsWithinCap (stock : Resources) : Type 0 where
+  pub metal : stock.metal ≤ GRAINS * CAP
+  pub crystal : stock.crystal ≤ GRAINS * CAP
+  pub deuterium : stock.deuterium ≤ GRAINS * CAP

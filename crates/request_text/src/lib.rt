@@ -1,0 +1,10 @@
+//! Requests: what a player may ask of a universe, and how it is spelled.
+#![tactic(auto)]
+
+mod call;
+mod entry;
+mod request;
+
+pub use call::Call;
+pub use entry::Entry;
+pub use request::Request;

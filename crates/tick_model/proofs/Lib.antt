@@ -1,0 +1,5 @@
+pub mod Maps
+pub mod Standing
+pub mod Steps
+pub mod Talks
+pub mod Worlds

@@ -1,0 +1,9 @@
+pub mod Universe
+pub mod Second
+pub mod Reply
+pub mod Step
+pub mod World
+pub mod History
+pub mod Talk
+pub mod Asking
+pub mod Strict

@@ -1,0 +1,59 @@
+ghost use Rattle.std.specs.Prelude.{◌≡◌, [], IfOk, option_map};
+ghost use Rattle.tick_model.specs.Strict.{Comes, fields_of, own_account, own_planet};
+
+use crate::planet::Planet;
+use crate::rules::Rules;
+use crate::writing::planet_lines;
+use base_ids::Player;
+use base_text::Bytes;
+use std::alloc::{AllocError, Global};
+
+/// The caller isn't a player.
+pub const NO_PLAYER: u8 = 1;
+
+/// No planet stands at the place.
+pub const NO_PLANET: u8 = 2;
+
+/// The planet is somebody else's.
+pub const NOT_YOURS: u8 = 3;
+
+/// What a request comes to: 0 and the lines of its reply, or the code of a refusal and no line.
+#[derive(Debug, Drop)]
+pub struct Acted {
+    pub code: u8,
+    pub body: Bytes,
+}
+
+fn refused(alloc: Global, code: u8) -> Acted
+    ensures { result ≡ record { code = code; body = [] } }
+{
+    Acted {
+        code,
+        body: Bytes::new(alloc),
+    }
+}
+
+/// What `planet C` comes to, where the caller is a player or not and this planet stands at C or none does.
+pub fn show_planet(
+    alloc: Global,
+    rules: Rules,
+    player: Player,
+    is_player: bool,
+    planet: Option<Planet>,
+) -> Result<Acted, AllocError>
+    ensures { IfOk result (Comes rules player (own_account is_player) (own_planet (option_map fields_of planet))) }
+{
+    if !is_player {
+        return Ok(refused(alloc, NO_PLAYER));
+    }
+    let Some(planet) = planet else {
+        return Ok(refused(alloc, NO_PLANET));
+    };
+    if planet.owner.k != player.k {
+        return Ok(refused(alloc, NOT_YOURS));
+    }
+    Ok(Acted {
+        code: 0,
+        body: planet_lines(alloc, rules, planet)?,
+    })
+}

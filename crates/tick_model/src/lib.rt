@@ -1,0 +1,20 @@
+//! A universe that ticks second by second: the definitions that every answer of the server is held to, and a
+//! plain slow program that follows them.
+#![tactic(auto)]
+
+mod acting;
+mod planet;
+mod reply;
+mod rules;
+mod stock;
+mod strict;
+mod ticking;
+mod writing;
+
+pub use acting::{Acted, NO_PLANET, NO_PLAYER, NOT_YOURS, show_planet};
+pub use planet::Planet;
+pub use reply::Reply;
+pub use rules::Rules;
+pub use strict::{StrictUniverse, has_player, planet_at};
+pub use ticking::ask;
+pub use writing::write_reply;

@@ -1,0 +1,68 @@
+ghost use Rattle.std.specs.Prelude.{◌≡◌, ◌+◌, ◌≤◌, ◌<◌, ◌^◌, map, IfOk, OnErr};
+ghost use Rattle.tick_model.specs.Asking.{Asks, brought};
+ghost use Rattle.tick_model.specs.Second.{planet_second, universe_second};
+ghost use Rattle.tick_model.specs.Strict.{fields_of, universe_of};
+
+use crate::acting::show_planet;
+use crate::planet::Planet;
+use crate::reply::Reply;
+use crate::rules::Rules;
+use crate::strict::{StrictUniverse, has_player, planet_at};
+use request_text::Call;
+use std::alloc::{AllocError, Global};
+
+/// One second of each planet.
+fn planets_second(planets: &mut [Planet], rules: Rules)
+    ensures { map fields_of planets.new ≡ map (planet_second rules) (map fields_of planets.old) }
+{
+    'planets: for planet in planets.iter_mut() {
+        *planet = planet.second(rules);
+    }
+}
+
+/// One second of the universe.
+fn second(universe: &mut StrictUniverse)
+    requires { universe.old.moment + 1 < 2 ^ 40 }
+    ensures { universe_of universe.new ≡ universe_second (universe_of universe.old) }
+{
+    planets_second(&mut universe.planets, universe.rules);
+    universe.moment += 1;
+}
+
+/// Lets the universe tick, second by second, to a moment that has not passed.
+fn tick_to(universe: &mut StrictUniverse, moment: u64)
+    requires later { universe.old.moment ≤ moment }
+    requires in_time { moment < 2 ^ 40 }
+    ensures { universe_of universe.new ≡ brought moment (universe_of universe.old) }
+{
+    'seconds: while universe.moment < moment {
+        second(universe);
+    }
+}
+
+/// Asks the universe, which ticks second by second to the moment of the call.
+///
+/// It is the plain form of asking: it takes a step for every second and every planet, and a copy of the
+/// universe. Where memory runs out the universe stays as it was.
+pub fn ask(alloc: Global, universe: &mut StrictUniverse, call: Call) -> Result<Reply, AllocError>
+    requires { universe.old.number < 2 ^ 40 }
+    ensures ok { IfOk result (Asks (universe_of universe.old) (universe_of universe.new) call) }
+    ensures err { OnErr result (universe_of universe.new ≡ universe_of universe.old) }
+{
+    let number = universe.number + 1;
+    let moment = call.reading.max(universe.moment);
+    let mut ticking = universe.copy()?;
+    tick_to(&mut ticking, moment);
+    let at = call.req.place();
+    let is_player = has_player(&ticking.players, call.player);
+    let planet = planet_at(&ticking.planets, at);
+    let acted = show_planet(alloc, ticking.rules, call.player, is_player, planet)?;
+    ticking.number = number;
+    *universe = ticking;
+    Ok(Reply {
+        number,
+        moment,
+        code: acted.code,
+        body: acted.body,
+    })
+}
