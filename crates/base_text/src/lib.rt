@@ -9,7 +9,7 @@ mod signs;
 #[cfg(test)]
 mod tests;
 
-pub use cutting::{cut, next_line, word};
+pub use cutting::{cut, is_same, next_line, word};
 pub use growing::Bytes;
-pub use numbers::number;
+pub use numbers::{number, positive_number};
 pub use signs::signed_number;

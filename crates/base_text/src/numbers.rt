@@ -24,6 +24,20 @@ pub fn number(word: &[u8], most: u64) -> Option<u64>
     Some(value)
 }
 
+/// The number from 1 to `most` that the word spells as `number` reads it. `None` exactly where the word
+/// spells none.
+pub fn positive_number(word: &[u8], most: u64) -> Option<u64>
+    ensures { MatchOption result ((n : ℕ) → 1 ≤ n → n ≤ most → word.now ≡ decimal n → ⊥) (λ n. (1 ≤ n) × (n ≤ most) × (word.now ≡ decimal n)) }
+{
+    let Some(n) = number(word, most) else {
+        return None;
+    };
+    match n {
+        0 => None,
+        _ => Some(n),
+    }
+}
+
 // Whether more digits follow a leading zero.
 fn has_needless_zero(word: &[u8]) -> bool
     ensures { IsTrue result ↔ ((1 < length word.now) × (slice_index word.now 0 ≡ 48)) }

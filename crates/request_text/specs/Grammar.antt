@@ -1,17 +1,12 @@
--- The grammar of a script: which words spell which call. Each call is spelled by one list of words.
-use Rattle.std.specs.Prelude.{◌≡◌, ℕ, List, [], ◌∷◌, codes}
+-- The grammar of a script: which lines spell which call. Each call is spelled by one list of words.
+use Rattle.std.specs.Prelude.{◌≡◌, ℕ, List, ◌∷◌}
 use Rattle.std.specs.Fmt.{decimal}
 use Rattle.base_text.specs.Parts.{words}
-use Rattle.base_ids.specs.Text.{coord_text, player_text}
+use Rattle.base_ids.specs.Text.{player_text}
+use Rattle.request_text.specs.Words.{request_words}
 use Rattle.request_text.specs.declared.call.Call.{Call}
-use Rattle.request_text.specs.declared.request.Request.{Request}
-use Rattle.request_text.specs.declared.request.Request.TheVariants.{Planet}
 
--- the words of a request
-abbrev pub request_words : Request → List (List ℕ)
-request_words (Planet at) = codes "planet" ∷ coord_text at ∷ []
-
--- the words of a line of a script: @ and the reading, the player, and the request
+-- the words that spell a call: @ and the reading, the player, and the request
 abbrev pub call_words : Call → List (List ℕ)
 call_words call = (64 ∷ decimal call.reading) ∷ player_text call.player ∷ request_words call.req
 

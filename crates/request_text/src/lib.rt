@@ -2,9 +2,14 @@
 #![tactic(auto)]
 
 mod call;
+mod coordinates;
 mod entry;
 mod request;
 
 pub use call::Call;
+pub use coordinates::{coord, player};
 pub use entry::Entry;
 pub use request::Request;
+
+#[cfg(test)]
+mod tests;

@@ -1,0 +1,44 @@
+ghost use Rattle.std.specs.Prelude.{◌≡◌, MatchOption};
+ghost use Rattle.base_ids.specs.Text.{coord_text, player_text};
+ghost use Rattle.base_ids.specs.declared.coord.Coord.{Coord};
+ghost use Rattle.base_ids.specs.declared.player.Player.{Player};
+
+use base_ids::{Coord, Player};
+use base_text::{cut, positive_number};
+
+/// The coordinate that a word spells, as `1:499:15`. `None` exactly where it spells none.
+#[tactic(auto, using(base_text::proofs::Joining::colon_numbers))]
+pub fn coord(word: &[u8]) -> Option<Coord>
+    ensures { MatchOption result ((at : Coord) → word.now ≡ coord_text at → ⊥) (λ at. word.now ≡ coord_text at) }
+{
+    let Some((galaxy, rest)) = cut(word, b':') else {
+        return None;
+    };
+    let Some((system, position)) = cut(rest, b':') else {
+        return None;
+    };
+    let Some(g) = positive_number(galaxy, 9) else {
+        return None;
+    };
+    let Some(s) = positive_number(system, 499) else {
+        return None;
+    };
+    let Some(p) = positive_number(position, 15) else {
+        return None;
+    };
+    Some(Coord {
+        g: g as u8,
+        s: s as u16,
+        p: p as u8,
+    })
+}
+
+/// The player whose number a word spells. `None` exactly where it spells none from 1 to 65535.
+pub fn player(word: &[u8]) -> Option<Player>
+    ensures { MatchOption result ((found : Player) → word.now ≡ player_text found → ⊥) (λ found. word.now ≡ player_text found) }
+{
+    let Some(k) = positive_number(word, 65535) else {
+        return None;
+    };
+    Some(Player { k: k as u32 })
+}
