@@ -1,5 +1,5 @@
 -- Seconds of a universe whose cells are given by a list of players and one of planets.
-use Rattle.std.proofs.Common.{◌≡◌, ℕ, ◌+◌, List, [], ◌∷◌, ◌++◌, Bool, true, false, cond, Option, Some, map, refl, ap, sym}
+use Rattle.std.proofs.Common.{◌≡◌, ℕ, zero, suc, ◌+◌, List, [], ◌∷◌, ◌++◌, Bool, true, false, cond, Option, None, Some, map, arith, refl, ap, ◌∙◌, sym}
 use Rattle.std.specs.Prelude.{find, option_map}
 use Rattle.std.specs.List.{list_any}
 use Rattle.std.proofs.Math.Path.{fun_ext}
@@ -9,9 +9,10 @@ use Rattle.base_ids.specs.declared.player.Player.{Player}
 use Rattle.base_ids.specs.declared.cell_id.CellId.{CellId}
 use Rattle.base_ids.specs.declared.cell_id.CellId.TheVariants.{Account, Planet}
 use Rattle.rates.specs.Times.{times}
+use Rattle.rates.specs.Stock.{stocks_second}
 use Rattle.tick_model.specs.declared.rules.Rules.{Rules}
 use Rattle.tick_model.specs.Universe.{of_nothing, of_account, PlanetFields, Universe}
-use Rattle.tick_model.specs.Second.{own_second, planet_second, universe_second}
+use Rattle.tick_model.specs.Second.{own_second, planet_after, planet_second, universe_second}
 use Rattle.tick_model.specs.declared.planet.Planet.{Planet as PlanetStruct}
 use Rattle.tick_model.specs.Strict.{fields_of, own_of, own_planet}
 
@@ -27,10 +28,6 @@ standing rules moment number players planets =
       items = [];
       fleets = [];
     }
-
--- a planet after so many seconds
-abbrev pub planet_after : ℕ → Rules → PlanetFields → PlanetFields
-planet_after seconds rules planet = times seconds (planet_second rules) planet
 
 account_second : (rules : Rules) (b : Bool) → own_second rules (cond b of_account of_nothing) ≡ cond b of_account of_nothing
 account_second rules true = refl
@@ -81,3 +78,50 @@ pub found_fields : (at : Coord) (xs : List PlanetStruct)
     → option_map fields_of (find (λ planet. same_coord planet.at at) xs) ≡ find (λ planet. same_coord planet.at at) (map fields_of xs)
 found_fields at [] = refl
 found_fields at (x ∷ xs) = found_fields_at (same_coord x.at at) x _ _ (found_fields at xs)
+
+mapped_none : (rules : Rules) (xs : List PlanetFields) → map (planet_after 0 rules) xs ≡ xs
+unfolding times
+mapped_none rules [] = refl
+mapped_none rules (x ∷ xs) = ap (λ rest. x ∷ rest) (mapped_none rules xs)
+
+mapped_one_more : (seconds : ℕ) (rules : Rules) (xs : List PlanetFields) → map (planet_second rules) (map (planet_after seconds rules) xs) ≡ map (planet_after (suc seconds) rules) xs
+unfolding times
+mapped_one_more seconds rules [] = refl
+mapped_one_more seconds rules (x ∷ xs) = ap (λ rest. planet_after (suc seconds) rules x ∷ rest) (mapped_one_more seconds rules xs)
+
+-- many seconds
+pub standing_after : (seconds : ℕ) (rules : Rules) (moment number : ℕ) (players : List Player) (planets : List PlanetFields)
+    → standing rules (moment + seconds) number players (map (planet_after seconds rules) planets) ≡ times seconds universe_second (standing rules moment number players planets)
+unfolding times
+standing_after zero rules moment number players planets =
+    let now : moment + 0 ≡ moment = omega arith in
+    λ i. standing rules (now i) number players (mapped_none rules planets i)
+standing_after (suc seconds) rules moment number players planets =
+    let later : moment + suc seconds ≡ moment + seconds + 1 = omega arith in
+    (λ i. standing rules (later i) number players (sym (mapped_one_more seconds rules planets) i))
+    ∙ standing_second rules (moment + seconds) number players (map (planet_after seconds rules) planets)
+    ∙ ap universe_second (standing_after seconds rules moment number players planets)
+
+-- a planet's stocks gain, and the rest of it stays
+pub planet_after-stock : (seconds : ℕ) (rules : Rules) (planet : PlanetFields)
+    → planet_after seconds rules planet ≡ record planet { stock = times seconds (stocks_second rules.speed) planet.stock }
+unfolding times
+planet_after-stock zero rules planet = refl
+planet_after-stock (suc seconds) rules planet = ap (planet_second rules) (planet_after-stock seconds rules planet)
+
+pub ruleset planets_later = (planet_after-stock)
+
+place_kept : (seconds : ℕ) (rules : Rules) (planet : PlanetFields) → (planet_after seconds rules planet).at ≡ planet.at
+place_kept seconds rules planet = ap (λ (p : PlanetFields). p.at) (planet_after-stock seconds rules planet)
+
+found_after_at : (b : Bool) (x y : PlanetFields) (xs ys : Option PlanetFields) (f : PlanetFields → PlanetFields) → y ≡ f x → ys ≡ option_map f xs → cond b (Some y) ys ≡ option_map f (cond b (Some x) xs)
+found_after_at true x y xs ys f here later = ap Some here
+found_after_at false x y xs ys f here later = later
+
+-- the planet found after so many seconds is the one found before them, so many seconds later
+pub found_after : (seconds : ℕ) (rules : Rules) (at : Coord) (xs : List PlanetFields)
+    → find (λ planet. same_coord planet.at at) (map (planet_after seconds rules) xs) ≡ option_map (planet_after seconds rules) (find (λ planet. same_coord planet.at at) xs)
+found_after seconds rules at [] = refl
+found_after seconds rules at (x ∷ xs) =
+    let kept = ap (λ (place : Coord). cond (same_coord place at) (Some (planet_after seconds rules x)) (find (λ planet. same_coord planet.at at) (map (planet_after seconds rules) xs))) (place_kept seconds rules x) in
+    kept ∙ found_after_at (same_coord x.at at) x (planet_after seconds rules x) _ _ (planet_after seconds rules) refl (found_after seconds rules at xs)

@@ -139,12 +139,12 @@ step_is u number moment reading player at =
     })
 
 -- what the program makes of an account and a planet is what they make of the request
-pub comes_as : (rules : Rules) (seen : CellId → View) (player : Player) (account planet account_there planet_there : Own) (acted : Acted)
-    → Comes rules player account planet acted → account ≡ account_there → planet ≡ planet_there
-    → (acted.code ≡ (planet_outcome rules seen player account_there planet_there).code) × (acted.body ≡ (planet_outcome rules seen player account_there planet_there).body)
-comes_as rules seen player account planet account_there planet_there acted comes same_account same_planet = (
-  comes.code seen ∙ (λ i. (planet_outcome rules seen player (same_account i) (same_planet i)).code),
-  comes.body seen ∙ (λ i. (planet_outcome rules seen player (same_account i) (same_planet i)).body),
+pub comes_as : (rules : Rules) (seen : CellId → View) (player : Player) (caller planet caller_there planet_there : Own) (acted : Acted)
+    → Comes rules player caller planet acted → caller ≡ caller_there → planet ≡ planet_there
+    → (acted.code ≡ (planet_outcome rules seen player caller_there planet_there).code) × (acted.body ≡ (planet_outcome rules seen player caller_there planet_there).body)
+comes_as rules seen player caller planet caller_there planet_there acted comes same_caller same_planet = (
+  comes.code seen ∙ (λ i. (planet_outcome rules seen player (same_caller i) (same_planet i)).code),
+  comes.body seen ∙ (λ i. (planet_outcome rules seen player (same_caller i) (same_planet i)).body),
 )
 
 -- a universe that was brought to a call's moment and answers there has been asked

@@ -9,6 +9,10 @@ use Rattle.tick_model.specs.Universe.{PlanetFields, Own, of_nothing, of_account,
 abbrev pub planet_second : Rules → PlanetFields → PlanetFields
 planet_second rules planet = record planet { stock = stocks_second rules.speed planet.stock }
 
+-- a planet after so many seconds
+abbrev pub planet_after : ℕ → Rules → PlanetFields → PlanetFields
+planet_after seconds rules planet = times seconds (planet_second rules) planet
+
 -- one second of what a cell has of its own: planets gain, accounts don't
 abbrev pub own_second : Rules → Own → Own
 own_second rules of_nothing = of_nothing

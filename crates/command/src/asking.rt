@@ -1,0 +1,81 @@
+ghost use Rattle.std.specs.Prelude.{◌≡◌, ◌+◌, ◌≤◌, ◌<◌, ◌^◌, map, find, IfOk, OnErr, option_map};
+ghost use Rattle.base_ids.specs.Cells.{same_coord};
+ghost use Rattle.tick_model.specs.Asking.{Asks, brought};
+ghost use Rattle.tick_model.specs.Strict.{fields_of, universe_of};
+ghost use Rattle.tick_model.specs.Second.{planet_after};
+
+use base_ids::Coord;
+use rates::stocks_after;
+use request_text::Call;
+use std::alloc::{AllocError, Global};
+use tick_model::{Planet, Reply, Rules, StrictUniverse, has_player, planet_at, show_planet};
+
+/// A planet so many seconds later, in constant time.
+#[tactic(auto, using(tick_model::proofs::Standing::planets_later))]
+fn after(planet: Planet, rules: Rules, seconds: u64) -> Planet
+    ensures { fields_of result ≡ planet_after seconds rules (fields_of planet) }
+{
+    Planet {
+        at: planet.at,
+        owner: planet.owner,
+        temperature: planet.temperature,
+        fields: planet.fields,
+        stock: stocks_after(planet.stock, rules.speed, seconds),
+    }
+}
+
+/// The planets so many seconds later.
+fn advance_planets(planets: &mut [Planet], rules: Rules, seconds: u64)
+    ensures { map fields_of planets.new ≡ map (planet_after seconds rules) (map fields_of planets.old) }
+{
+    'planets: for planet in planets.iter_mut() {
+        *planet = after(*planet, rules, seconds);
+    }
+}
+
+/// Brings the universe to a moment that has not passed, in one step for each planet.
+fn advance(universe: &mut StrictUniverse, moment: u64)
+    requires later { universe.old.moment ≤ moment }
+    requires in_time { moment < 2 ^ 40 }
+    ensures { universe_of universe.new ≡ brought moment (universe_of universe.old) }
+{
+    let seconds = moment - universe.moment;
+    advance_planets(&mut universe.planets, universe.rules, seconds);
+    universe.moment = moment;
+}
+
+/// The planet at a place, so many seconds later.
+fn planet_later(planets: &[Planet], at: Coord, rules: Rules, seconds: u64) -> Option<Planet>
+    ensures { option_map fields_of result ≡ find (λ planet. same_coord planet.at at) (map (planet_after seconds rules) (map fields_of planets.now)) }
+{
+    match planet_at(planets, at) {
+        Some(planet) => Some(after(planet, rules, seconds)),
+        None => None,
+    }
+}
+
+/// Asks the universe: it is brought to the moment of the call, and answers there.
+///
+/// No loop over the seconds is made. It fails only where memory runs out, and the universe then stays as it was.
+pub fn ask(alloc: Global, universe: &mut StrictUniverse, call: Call) -> Result<Reply, AllocError>
+    requires { universe.old.number < 2 ^ 40 }
+    ensures ok { IfOk result (Asks (universe_of universe.old) (universe_of universe.new) call) }
+    ensures err { OnErr result (universe_of universe.new ≡ universe_of universe.old) }
+{
+    let number = universe.number + 1;
+    let moment = call.reading.max(universe.moment);
+    let rules = universe.rules;
+    let seconds = moment - universe.moment;
+    let at = call.req.place();
+    let is_player = has_player(&universe.players, call.player);
+    let planet = planet_later(&universe.planets, at, rules, seconds);
+    let acted = show_planet(alloc, rules, call.player, is_player, planet)?;
+    advance(universe, moment);
+    universe.number = number;
+    Ok(Reply {
+        number,
+        moment,
+        code: acted.code,
+        body: acted.body,
+    })
+}
