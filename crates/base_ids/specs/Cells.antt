@@ -1,5 +1,5 @@
 -- Which cell is which.
-use Rattle.std.specs.Prelude.{ℕ, Bool, false, ◌==◌, ◌&&◌}
+use Rattle.std.specs.Prelude.{Bool, false, ◌==◌, ◌&&◌}
 use Rattle.base_ids.specs.declared.coord.Coord.{Coord}
 use Rattle.base_ids.specs.declared.player.Player.{Player}
 use Rattle.base_ids.specs.declared.cell_id.CellId.{CellId}

@@ -1,7 +1,6 @@
 -- Lines of words.
-use Rattle.std.proofs.Common.{◌≡◌, ℕ, ◌<◌, ◌^◌, List, [], ◌∷◌, ap, ◌∙◌, sym, arith}
+use Rattle.std.proofs.Common.{◌≡◌, ℕ, ◌<◌, ◌≤◌, ◌^◌, List, [], ◌∷◌, length, get_or, ap, ◌∙◌, sym, arith}
 use Rattle.std.specs.Prelude.{codes}
-use Rattle.std.specs.Fmt.{decimal}
 use Rattle.std.proofs.lemmas.Fmt.{decimal_injective}
 use Rattle.base_text.specs.Parts.{words}
 use Rattle.base_text.proofs.Joining.{last_part}
@@ -40,3 +39,9 @@ no_player line form number cut none k spells =
 -- where one follows the word `player`, the line names it
 pub player_named : (line form number : List ℕ) (k : Player) → words line ≡ form ∷ words number → form ≡ codes "player" → number ≡ player_text k → words line ≡ player_words k
 player_named line form number k cut first second = cut ∙ (λ i. first i ∷ words (second i)) ∙ ap (λ rest. codes "player" ∷ rest) (player_word k)
+
+-- a list of one element is that element
+pub one_item : {A : Type 0} (xs : List A) (x : A) → 1 ≤ length xs → length xs < 2 → x ≡ get_or xs 0 x → xs ≡ x ∷ []
+one_item [] x least most is = absurd (omega (arith, least))
+one_item (y ∷ []) x least most is = ap (λ z. z ∷ []) (sym is)
+one_item (y ∷ z ∷ more) x least most is = absurd (omega (arith, most))

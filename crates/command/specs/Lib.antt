@@ -1,2 +1,3 @@
 pub mod Founding
 pub mod Streams
+pub mod Trial

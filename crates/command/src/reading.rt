@@ -1,4 +1,4 @@
-ghost use Rattle.std.specs.Prelude.{◌≡◌, List, ℕ, [], ◌∷◌, MatchOption};
+ghost use Rattle.std.specs.Prelude.{◌≡◌, ◌<◌, List, ℕ, [], ◌∷◌, length, IfSome, MatchOption};
 ghost use Rattle.base_text.specs.Parts.{words};
 ghost use Rattle.base_ids.specs.declared.player.Player.{Player};
 ghost use Rattle.command.specs.Founding.{heading_words, planet_words, player_words, IsFoundedBy, IsNoFounding};
@@ -119,7 +119,8 @@ fn read_planet(line: &[u8], owner: Player) -> Option<FirstPlanet>
 /// What a text founds, and the text after its four founding lines. `None` exactly where the text does not begin
 /// with four such lines.
 pub fn read_founding(text: &[u8]) -> Option<(Founding, &[u8])>
-    ensures { MatchOption result (IsNoFounding text.now) (λ f. IsFoundedBy text.now f.0 f.1.now) }
+    ensures founding { MatchOption result (IsNoFounding text.now) (λ f. IsFoundedBy text.now f.0 f.1.now) }
+    ensures shorter { IfSome result (λ f. length f.1.now < length text.now) }
 {
     let Some((first, rest)) = next_line(text) else {
         return None;

@@ -1,5 +1,5 @@
 -- A stock after many seconds, in closed form.
-use Rattle.std.proofs.Common.{◌≡◌, ℕ, zero, suc, ◌+◌, ◌*◌, ◌<◌, ◌≤◌, ◌-◌, min, arith, refl, ap, ◌∙◌, sym}
+use Rattle.std.proofs.Common.{◌≡◌, ℕ, zero, suc, ◌+◌, ◌*◌, ◌<◌, ◌≤◌, min, arith, refl, ap}
 use Rattle.std.proofs.lemmas.Bool.Decides.{nat_tests}
 use Rattle.rates.specs.Stock.{gain_once, stocks_second}
 use Rattle.rates.specs.declared.stock.TheConstants.{GRAINS, STORAGE}

@@ -199,3 +199,7 @@ stands-asked base history old new call answer stands asked =
       stands = subst (Stands base (history ++ entry ∷ [])) (sym asked.after) (stands-next base history old entry stands (record { next = refl; latest = refl }));
       replied = asked.answer ∙ sym (ap (λ u. (step u entry).reply) (world-brought base history old entry.moment stands later));
     }
+
+-- a call takes the next number
+pub asked-number : (old new : Universe) (call : Call) (answer : Reply) → Asks old new call answer → new.number ≡ old.number + 1
+asked-number old new call answer asked = ap (λ u. u.number) asked.after ∙ step-number (brought (entry_of old call).moment old) (entry_of old call)

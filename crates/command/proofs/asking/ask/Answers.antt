@@ -1,5 +1,5 @@
-use Rattle.std.proofs.Common.{◌≡◌, ◌+◌, ◌-◌, ◌∙◌, ap, max, refl, arith, sym}
-use Rattle.std.specs.Prelude.{find, map, option_map}
+use Rattle.std.proofs.Common.{◌≡◌, ◌+◌, ◌-◌, ◌∙◌, ap, max, arith, sym}
+use Rattle.std.specs.Prelude.{find, map}
 use Rattle.std.specs.List.{list_any}
 use Rattle.base_ids.specs.Cells.{same_coord, same_player}
 use Rattle.base_ids.specs.declared.cell_id.CellId.TheVariants.{Account, Planet}

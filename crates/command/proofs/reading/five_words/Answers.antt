@@ -1,5 +1,4 @@
-use Rattle.std.proofs.Common.{◌≡◌, ◌∷◌, [], ◌∙◌, ap, sym}
-use Rattle.base_text.specs.Parts.{words}
+use Rattle.std.proofs.Common.{◌∷◌, ◌∙◌, ap, sym}
 use Rattle.command.proofs.Readings.{more_than_five}
 use Rattle.command.proofs.reading.five_words.Goals as goal
 

@@ -1,7 +1,5 @@
-use Rattle.std.proofs.Common.{◌≡◌, ◌≢◌, ◌∷◌, [], ◌∙◌, sym}
-use Rattle.std.specs.Prelude.{codes}
-use Rattle.std.specs.Fmt.{decimal, signed_decimal}
-use Rattle.base_ids.specs.Text.{coord_text, player_text}
+use Rattle.std.proofs.Common.{◌≡◌, ◌∙◌, sym}
+use Rattle.base_ids.specs.Text.{player_text}
 use Rattle.command.proofs.Readings.{same_text}
 use Rattle.command.proofs.reading.read_planet.Goals as goal
 

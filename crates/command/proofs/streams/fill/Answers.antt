@@ -1,4 +1,4 @@
-use Rattle.std.proofs.Common.{◌≡◌, ◌≤◌, ◌-◌, arith, length, subst, sym, take}
+use Rattle.std.proofs.Common.{◌≤◌, ◌-◌, arith, length, subst, sym, take}
 use Rattle.std.proofs.KnownBytes.{Consumes-trans}
 use Rattle.std.specs.Io.KnownBytes.{Consumes}
 use Rattle.command.proofs.Streaming.{filled_more, filled_within}

@@ -1,4 +1,4 @@
-use Rattle.std.proofs.Common.{◌≤◌, ◌++◌, arith, length, subst, sym, take}
+use Rattle.std.proofs.Common.{◌++◌, arith, length, subst, sym, take}
 use Rattle.std.proofs.KnownBytes.{Appends-kept, Appends-trans}
 use Rattle.std.specs.Io.KnownBytes.{Appends}
 use Rattle.command.proofs.Streaming.{written_front, written_more}

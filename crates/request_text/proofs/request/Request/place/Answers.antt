@@ -1,4 +1,4 @@
-use Rattle.std.proofs.Common.{◌≡◌, ◌∙◌, ap, sym, refl, rules}
+use Rattle.std.proofs.Common.{◌≡◌, ◌∙◌, ap, refl, rules}
 use Rattle.base_ids.proofs.Coords.{coord_is}
 use Rattle.base_ids.specs.declared.coord.Coord.{Coord}
 use Rattle.request_text.specs.declared.request.Request.{Request}
