@@ -9,6 +9,8 @@ mod founding;
 mod reading;
 mod status;
 mod streams;
+#[cfg(test)]
+mod tests;
 
 pub use answering::answer_lines;
 pub use asking::ask;
