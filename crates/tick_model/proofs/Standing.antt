@@ -55,7 +55,7 @@ cells_second rules (x ∷ xs) = ap (λ rest. Planet x.at ∷ rest) (cells_second
 -- one second
 pub standing_second : (rules : Rules) (moment number : ℕ) (players : List Player) (planets : List PlanetFields)
     → standing rules (moment + 1) number players (map (planet_second rules) planets) ≡ universe_second (standing rules moment number players planets)
-unfolding universe_second
+unfolding universe_second times
 standing_second rules moment number players planets =
     let cells = cells_second rules planets in
     let own = fun_ext (λ cell. own_gained rules players planets cell) in

@@ -23,15 +23,15 @@ own_second rules (of_planet planet) = of_planet (planet_second rules planet)
 abbrev pub cell_second : Rules → View → View
 cell_second rules seen = record seen { own = own_second rules seen.own }
 
--- what a cell is after it has gained for so many seconds
+-- a cell after it has gained for so many seconds
 abbrev pub gains : Rules → ℕ → View → View
 gains rules seconds seen = times seconds (cell_second rules) seen
 
--- One second of the universe: its clock goes on and every cell gains. No request orders an item or sends a
--- fleet yet, so nothing else comes due.
+-- One second of the universe: its clock goes on, and every cell gains for one second. No request orders an item or
+-- sends a fleet yet, so nothing else comes due.
 unfoldable pub universe_second : Universe → Universe
 universe_second universe =
     record universe {
       moment = universe.moment + 1;
-      own = λ cell. (cell_second universe.rules (view universe cell)).own;
+      own = λ cell. (gains universe.rules 1 (view universe cell)).own;
     }
