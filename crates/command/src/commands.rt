@@ -4,7 +4,7 @@ ghost use Rattle.command.specs.Founding.{IsNoFounding};
 ghost use Rattle.command.specs.Trial.{IsBroken, IsDone, IsNotFounded, IsStatus, IsTooLong, IsTrial, Tried, TriedInPart};
 
 use crate::answering::answer_lines;
-use crate::first::found;
+use crate::founded::found;
 use crate::reading::read_founding;
 use crate::status::{
     DONE, NO_MEMORY, NOT_A_COMMAND, NOT_FOUNDED, SINK_FAULT, SOURCE_FAULT, TOO_LONG,

@@ -4,7 +4,7 @@
 mod answering;
 mod asking;
 mod commands;
-mod first;
+mod founded;
 mod founding;
 mod reading;
 mod status;
@@ -15,7 +15,7 @@ mod tests;
 pub use answering::answer_lines;
 pub use asking::ask;
 pub use commands::run;
-pub use first::{FIRST_UNITS, found};
+pub use founded::{FIRST_UNITS, found};
 pub use founding::{FirstPlanet, Founding, Heading};
 pub use reading::read_founding;
 pub use status::{DONE, NO_MEMORY, NOT_A_COMMAND, NOT_FOUNDED, SINK_FAULT, SOURCE_FAULT, TOO_LONG};
