@@ -6,7 +6,9 @@ ghost use Rattle.base_text.specs.Parts.{parts, words};
 /// where the text has no `separator`.
 #[tactic(auto, using(crate::proofs::Splitting::splitting))]
 pub fn cut(text: &[u8], separator: u8) -> Option<(&[u8], &[u8])>
-    ensures split { MatchOption result (parts separator text.now ≡ text.now ∷ []) (λ f. parts separator text.now ≡ f.0.now ∷ parts separator f.1.now) }
+    ensures split { MatchOption result
+        (parts separator text.now ≡ text.now ∷ [])
+        (λ f. parts separator text.now ≡ f.0.now ∷ parts separator f.1.now) }
     ensures shorter { IfSome result (λ f. length f.1.now < length text.now) }
 {
     'bytes: for (i, byte) in text.iter().enumerate() {
@@ -42,7 +44,9 @@ pub fn word(line: &[u8], k: usize) -> Option<&[u8]>
 /// is not empty, and keeps all its bytes. `None` exactly where the text is empty.
 #[tactic(auto, using(crate::proofs::Splitting::lining))]
 pub fn next_line(text: &[u8]) -> Option<(&[u8], &[u8])>
-    ensures first { MatchOption result (lines text.now ≡ []) (λ f. lines text.now ≡ f.0.now ∷ lines f.1.now) }
+    ensures first { MatchOption result
+        (lines text.now ≡ [])
+        (λ f. lines text.now ≡ f.0.now ∷ lines f.1.now) }
     ensures shorter { IfSome result (λ f. length f.1.now < length text.now) }
     ensures none { MatchOption result (text.now ≡ []) (λ _. 0 < length text.now) }
 {

@@ -5,7 +5,9 @@ ghost use Rattle.std.specs.Fmt.{decimal};
 /// `None` exactly where the word spells no number of at most `most`.
 #[tactic(auto, using(crate::proofs::Spelling::reading))]
 pub fn number(word: &[u8], most: u64) -> Option<u64>
-    ensures { MatchOption result ((n : ℕ) → n ≤ most → word.now ≡ decimal n → ⊥) (λ n. (n ≤ most) × (word.now ≡ decimal n)) }
+    ensures { MatchOption result
+        ((n : ℕ) → n ≤ most → word.now ≡ decimal n → ⊥)
+        (λ n. (n ≤ most) × (word.now ≡ decimal n)) }
 {
     if word.is_empty() || has_needless_zero(word) {
         return None;
@@ -27,7 +29,9 @@ pub fn number(word: &[u8], most: u64) -> Option<u64>
 /// The number from 1 to `most` that the word spells as `number` reads it. `None` exactly where the word
 /// spells none.
 pub fn positive_number(word: &[u8], most: u64) -> Option<u64>
-    ensures { MatchOption result ((n : ℕ) → 1 ≤ n → n ≤ most → word.now ≡ decimal n → ⊥) (λ n. (1 ≤ n) × (n ≤ most) × (word.now ≡ decimal n)) }
+    ensures { MatchOption result
+        ((n : ℕ) → 1 ≤ n → n ≤ most → word.now ≡ decimal n → ⊥)
+        (λ n. (1 ≤ n) × (n ≤ most) × (word.now ≡ decimal n)) }
 {
     let Some(n) = number(word, most) else {
         return None;

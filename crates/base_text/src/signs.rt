@@ -7,7 +7,9 @@ use crate::numbers::number;
 /// them where the number is below 0. `None` exactly where the word spells no number from `least`
 /// to `most`.
 pub fn signed_number(word: &[u8], least: i16, most: i16) -> Option<i16>
-    ensures { MatchOption result ((z : ℤ) → least ≤ℤ z → z ≤ℤ most → word.now ≡ signed_decimal z → ⊥) (λ z. (least ≤ℤ z) × (z ≤ℤ most) × (word.now ≡ signed_decimal z)) }
+    ensures { MatchOption result
+        ((z : ℤ) → least ≤ℤ z → z ≤ℤ most → word.now ≡ signed_decimal z → ⊥)
+        (λ z. (least ≤ℤ z) × (z ≤ℤ most) × (word.now ≡ signed_decimal z)) }
 {
     let Some(value) = small_number(word) else {
         return None;
@@ -25,7 +27,9 @@ pub fn signed_number(word: &[u8], least: i16, most: i16) -> Option<i16>
 
 // The same for the numbers from -32768 to 32768.
 fn small_number(word: &[u8]) -> Option<i32>
-    ensures { MatchOption result ((z : ℤ) → negsuc 32767 ≤ℤ z → z ≤ℤ pos 32768 → word.now ≡ signed_decimal z → ⊥) (λ z. (negsuc 32767 ≤ℤ z) × (z ≤ℤ pos 32768) × (word.now ≡ signed_decimal z)) }
+    ensures { MatchOption result
+        ((z : ℤ) → negsuc 32767 ≤ℤ z → z ≤ℤ pos 32768 → word.now ≡ signed_decimal z → ⊥)
+        (λ z. (negsuc 32767 ≤ℤ z) × (z ≤ℤ pos 32768) × (word.now ≡ signed_decimal z)) }
 {
     match word {
         [b'-', digits @ ..] => {

@@ -44,9 +44,11 @@ pub fn answer_lines<K: Sink>(
 ) -> u8
     requires { universe.old.number + length script.now < 2 ^ 40 }
     ensures statuses { (result ≡ DONE) ⊎ (result ≡ SINK_FAULT) ⊎ (result ≡ NO_MEMORY) }
-    ensures done { result ≡ DONE → Answered (universe_of universe.old) (lines script.now) (K.written sink.old) (K.written sink.new) }
+    ensures done { result ≡ DONE
+        → Answered (universe_of universe.old) (lines script.now) (K.written sink.old) (K.written sink.new) }
     ensures sink_fault { result ≡ SINK_FAULT → Rose (K.faults sink.old) (K.faults sink.new) }
-    ensures broke_off { (result ≡ SINK_FAULT) ⊎ (result ≡ NO_MEMORY) → BrokeOff (universe_of universe.old) (lines script.now) (K.written sink.old) (K.written sink.new) }
+    ensures broke_off { (result ≡ SINK_FAULT) ⊎ (result ≡ NO_MEMORY)
+        → BrokeOff (universe_of universe.old) (lines script.now) (K.written sink.old) (K.written sink.new) }
 {
     let mut out = Bytes::new(alloc);
     let mut rest = script;

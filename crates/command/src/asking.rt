@@ -46,7 +46,8 @@ fn advance(universe: &mut StrictUniverse, moment: u64)
 
 /// The planet at a place, so many seconds later.
 fn planet_later(planets: &[Planet], at: Coord, rules: Rules, seconds: u64) -> Option<Planet>
-    ensures { option_map fields_of result ≡ find (λ planet. same_coord planet.at at) (map (planet_after seconds rules) (map fields_of planets.now)) }
+    ensures { option_map fields_of result
+        ≡ find (λ planet. same_coord planet.at at) (map (planet_after seconds rules) (map fields_of planets.now)) }
 {
     match planet_at(planets, at) {
         Some(planet) => Some(after(planet, rules, seconds)),

@@ -27,11 +27,13 @@ fn is_trial(words: &[String]) -> bool
 /// Answers the script of an input that begins with a founding text.
 fn trial<K: Sink>(alloc: Global, input: &[u8], sink: &mut K) -> u8
     requires { length input.now < MOST }
-    ensures statuses { (result ≡ DONE) ⊎ (result ≡ SINK_FAULT) ⊎ (result ≡ NO_MEMORY) ⊎ (result ≡ NOT_FOUNDED) }
+    ensures statuses { (result ≡ DONE) ⊎ (result ≡ SINK_FAULT) ⊎ (result ≡ NO_MEMORY)
+        ⊎ (result ≡ NOT_FOUNDED) }
     ensures done { result ≡ DONE → Tried input.now (K.written sink.old) (K.written sink.new) }
     ensures sink_fault { result ≡ SINK_FAULT → Rose (K.faults sink.old) (K.faults sink.new) }
     ensures broken { result ≡ SINK_FAULT → TriedInPart input.now (K.written sink.old) (K.written sink.new) }
-    ensures no_memory { result ≡ NO_MEMORY → (sink.new ≡ sink.old) ⊎ TriedInPart input.now (K.written sink.old) (K.written sink.new) }
+    ensures no_memory { result ≡ NO_MEMORY
+        → (sink.new ≡ sink.old) ⊎ TriedInPart input.now (K.written sink.old) (K.written sink.new) }
     ensures not_founded { result ≡ NOT_FOUNDED → IsNoFounding input.now × (sink.new ≡ sink.old) }
 {
     let Some((founding, script)) = read_founding(input) else {
@@ -61,14 +63,18 @@ pub fn run<S: Source, K: Sink, C: Clock>(
     ensures untouched { result ≡ NOT_A_COMMAND → (source.new ≡ source.old) × (sink.new ≡ sink.old) }
 
     // What was read and written with each status, and what causes it.
-    ensures done { result ≡ DONE → IsDone (S.left source.old) (S.left source.new) (K.written sink.old) (K.written sink.new) }
+    ensures done { result ≡ DONE
+        → IsDone (S.left source.old) (S.left source.new) (K.written sink.old) (K.written sink.new) }
     ensures source_fault { result ≡ SOURCE_FAULT → Rose (S.faults source.old) (S.faults source.new) }
     ensures sink_fault { result ≡ SINK_FAULT → Rose (K.faults sink.old) (K.faults sink.new) }
-    ensures broken { result ≡ SINK_FAULT → IsBroken (S.left source.old) (S.left source.new) (K.written sink.old) (K.written sink.new) }
-    ensures no_memory { result ≡ NO_MEMORY → (sink.new ≡ sink.old) ⊎ IsBroken (S.left source.old) (S.left source.new) (K.written sink.old) (K.written sink.new) }
+    ensures broken { result ≡ SINK_FAULT
+        → IsBroken (S.left source.old) (S.left source.new) (K.written sink.old) (K.written sink.new) }
+    ensures no_memory { result ≡ NO_MEMORY → (sink.new ≡ sink.old)
+        ⊎ IsBroken (S.left source.old) (S.left source.new) (K.written sink.old) (K.written sink.new) }
     ensures too_long { result ≡ TOO_LONG → IsTooLong (S.left source.old) (S.left source.new) }
     ensures not_founded { result ≡ NOT_FOUNDED → IsNotFounded (S.left source.old) (S.left source.new) }
-    ensures nothing_written { (result ≡ SOURCE_FAULT) ⊎ (result ≡ TOO_LONG) ⊎ (result ≡ NOT_FOUNDED) → sink.new ≡ sink.old }
+    ensures nothing_written { (result ≡ SOURCE_FAULT) ⊎ (result ≡ TOO_LONG) ⊎ (result ≡ NOT_FOUNDED)
+        → sink.new ≡ sink.old }
 
     ensures clock { clock.new ≡ clock.old }
 {

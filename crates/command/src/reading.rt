@@ -37,7 +37,9 @@ fn five_words(line: &[u8]) -> Option<(&[u8], &[u8], &[u8], &[u8], &[u8])>
 
 /// What a line `universe SEED SPEED CAPACITY MOMENT` says. `None` exactly where the line is no such line.
 fn read_heading(line: &[u8]) -> Option<Heading>
-    ensures { MatchOption result ((h : Heading) → words line.now ≡ heading_words h → ⊥) (λ h. words line.now ≡ heading_words h) }
+    ensures { MatchOption result
+        ((h : Heading) → words line.now ≡ heading_words h → ⊥)
+        (λ h. words line.now ≡ heading_words h) }
 {
     let Some((form, seed, speed, capacity, moment)) = five_words(line) else {
         return None;
@@ -69,7 +71,9 @@ fn read_heading(line: &[u8]) -> Option<Heading>
 
 /// The player that a line `player K` names. `None` exactly where the line is no such line.
 fn read_player(line: &[u8]) -> Option<Player>
-    ensures { MatchOption result ((k : Player) → words line.now ≡ player_words k → ⊥) (λ k. words line.now ≡ player_words k) }
+    ensures { MatchOption result
+        ((k : Player) → words line.now ≡ player_words k → ⊥)
+        (λ k. words line.now ≡ player_words k) }
 {
     let Some((form, number)) = cut(line, b' ') else {
         return None;
@@ -86,7 +90,9 @@ fn read_player(line: &[u8]) -> Option<Player>
 /// The planet that a line `planet C K T FIELDS` gives to the player. `None` exactly where the line is no
 /// such line.
 fn read_planet(line: &[u8], owner: Player) -> Option<FirstPlanet>
-    ensures { MatchOption result ((p : FirstPlanet) → words line.now ≡ planet_words owner p → ⊥) (λ p. words line.now ≡ planet_words owner p) }
+    ensures { MatchOption result
+        ((p : FirstPlanet) → words line.now ≡ planet_words owner p → ⊥)
+        (λ p. words line.now ≡ planet_words owner p) }
 {
     let Some((form, place, number, temperature, fields)) = five_words(line) else {
         return None;
@@ -119,7 +125,9 @@ fn read_planet(line: &[u8], owner: Player) -> Option<FirstPlanet>
 /// What a text founds, and the text after its four founding lines. `None` exactly where the text does not begin
 /// with four such lines.
 pub fn read_founding(text: &[u8]) -> Option<(Founding, &[u8])>
-    ensures founding { MatchOption result (IsNoFounding text.now) (λ f. IsFoundedBy text.now f.0 f.1.now) }
+    ensures founding { MatchOption result
+        (IsNoFounding text.now)
+        (λ f. IsFoundedBy text.now f.0 f.1.now) }
     ensures shorter { IfSome result (λ f. length f.1.now < length text.now) }
 {
     let Some((first, rest)) = next_line(text) else {

@@ -29,7 +29,8 @@ pub enum Taken {
 
 /// Reads from the source until the buffer is full or the input ends.
 fn fill<S: Source>(source: &mut S, buffer: &mut [u8]) -> Filled
-    ensures filled { Fills (S.left source.old) (S.left source.new) (S.faults source.old) (S.faults source.new) buffer.new result }
+    ensures filled { Fills (S.left source.old) (S.left source.new) (S.faults source.old) (S.faults source.new)
+        buffer.new result }
     ensures faults { S.faults source.old ≤ S.faults source.new }
 {
     let mut filled = 0;
@@ -72,7 +73,8 @@ pub fn read_all<S: Source>(alloc: Global, source: &mut S) -> Taken
 /// front of them.
 pub fn write_all<K: Sink>(sink: &mut K, bytes: &[u8]) -> Result<(), Failed>
     ensures all { OnOk result (Appends (K.written sink.old) (K.written sink.new) bytes.now) }
-    ensures front { OnErr result ((count : ℕ) × Appends (K.written sink.old) (K.written sink.new) (take count bytes.now)) }
+    ensures front { OnErr result
+        ((count : ℕ) × Appends (K.written sink.old) (K.written sink.new) (take count bytes.now)) }
     ensures cause { HasCause (K.faults sink.old) (K.faults sink.new) result }
 {
     let mut rest = bytes;

@@ -47,7 +47,9 @@ impl Call {
 
 /// The reading that a word `@R` tells.
 fn told_reading(word: &[u8]) -> Option<u64>
-    ensures { MatchOption result ((n : ℕ) → n < 2 ^ 40 → word.now ≡ 64 ∷ decimal n → ⊥) (λ n. (n < 2 ^ 40) × (word.now ≡ 64 ∷ decimal n)) }
+    ensures { MatchOption result
+        ((n : ℕ) → n < 2 ^ 40 → word.now ≡ 64 ∷ decimal n → ⊥)
+        (λ n. (n < 2 ^ 40) × (word.now ≡ 64 ∷ decimal n)) }
 {
     match word {
         [b'@', digits @ ..] => number(digits, (1 << 40) - 1),

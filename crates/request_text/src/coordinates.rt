@@ -9,7 +9,9 @@ use base_text::{cut, positive_number};
 /// The coordinate that a word spells, as `1:499:15`. `None` exactly where it spells none.
 #[tactic(auto, using(base_text::proofs::Joining::colon_numbers))]
 pub fn coord(word: &[u8]) -> Option<Coord>
-    ensures { MatchOption result ((at : Coord) → word.now ≡ coord_text at → ⊥) (λ at. word.now ≡ coord_text at) }
+    ensures { MatchOption result
+        ((at : Coord) → word.now ≡ coord_text at → ⊥)
+        (λ at. word.now ≡ coord_text at) }
 {
     let Some((galaxy, rest)) = cut(word, b':') else {
         return None;
@@ -35,7 +37,9 @@ pub fn coord(word: &[u8]) -> Option<Coord>
 
 /// The player whose number a word spells. `None` exactly where it spells none from 1 to 65535.
 pub fn player(word: &[u8]) -> Option<Player>
-    ensures { MatchOption result ((found : Player) → word.now ≡ player_text found → ⊥) (λ found. word.now ≡ player_text found) }
+    ensures { MatchOption result
+        ((found : Player) → word.now ≡ player_text found → ⊥)
+        (λ found. word.now ≡ player_text found) }
 {
     let Some(k) = positive_number(word, 65535) else {
         return None;

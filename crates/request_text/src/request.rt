@@ -18,7 +18,9 @@ impl Request {
 
     /// The request that a line spells. `None` exactly where it spells none.
     pub fn read(line: &[u8]) -> Option<Request>
-        ensures { MatchOption result ((req : Request) → words line.now ≡ request_words req → ⊥) (λ req. words line.now ≡ request_words req) }
+        ensures { MatchOption result
+            ((req : Request) → words line.now ≡ request_words req → ⊥)
+            (λ req. words line.now ≡ request_words req) }
     {
         let Some((form, place)) = cut(line, b' ') else {
             return None;
