@@ -18,3 +18,6 @@ pub use rules::Rules;
 pub use strict::{StrictUniverse, has_player, planet_at};
 pub use ticking::ask;
 pub use writing::write_reply;
+
+#[cfg(test)]
+mod tests;
