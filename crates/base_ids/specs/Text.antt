@@ -1,4 +1,4 @@
--- How players and coordinates are written.
+-- How players and coordinates are written. Rule: docs/PROTOCOL.md, "Lines, words, numbers".
 use Rattle.std.specs.Prelude.{ℕ, List, ◌++◌, codes}
 use Rattle.std.specs.Fmt.{decimal}
 use Rattle.base_ids.specs.declared.coord.Coord.{Coord}

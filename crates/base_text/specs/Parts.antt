@@ -1,4 +1,4 @@
--- What stands between the separators of a text.
+-- What stands between the separators of a text. Rule: docs/PROTOCOL.md, "Lines, words, numbers".
 use Rattle.std.specs.Prelude.{ℕ, List, ◌==◌, ◌<◌, ◌≢◌, length, slice_index}
 use Rattle.std.specs.List.{slice_split}
 

@@ -1,4 +1,5 @@
--- The founding text, and the universe that it founds.
+-- The founding text, and the universe that it founds. Rules: docs/PROTOCOL.md, "The founding text", and
+-- docs/RULES.md, "The founding".
 use Rattle.std.specs.Prelude.{◌≡◌, ℕ, ◌*◌, List, [], ◌∷◌, codes, if◌then◌else◌}
 use Rattle.std.specs.Fmt.{decimal, signed_decimal}
 use Rattle.std.specs.Str.Lines.{lines}

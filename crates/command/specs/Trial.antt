@@ -1,4 +1,4 @@
--- What `trial` does.
+-- What `trial` does. Statuses: docs/PROTOCOL.md, "Statuses".
 use Rattle.std.specs.Prelude.{◌≡◌, ℕ, ◌<◌, ◌⊎◌, List, [], ◌∷◌, ◌++◌, length, take, codes, Option}
 use Rattle.std.specs.Io.KnownBytes.{Appends, Consumes, IsAtEnd}
 use Rattle.request_text.specs.Grammar.{IsOutside, Spells}

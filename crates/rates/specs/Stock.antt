@@ -1,25 +1,29 @@
--- One second of production, all stocks in grains of 1/3600 unit.
+-- One second of production, all stocks in grains of 1/3600 unit. Rules: docs/RULES.md, from "Resources and grains"
+-- to "Basic income".
 use Rattle.std.specs.Prelude.{ℕ, ◌+◌, ◌*◌, ◌/◌, ◌≤◌, min, nat_lt, if◌then◌else◌}
 use Rattle.rates.specs.declared.stock.TheConstants.{CAP, GRAINS, STORAGE}
 use Rattle.rates.specs.declared.resources.Resources.{Resources}
 
--- below its limit a stock gains the hourly yield and is cut at the limit; at or above its limit it stays
+-- Below its limit a stock gains the hourly yield and is cut at the limit; at or above its limit it stays.
+-- Rule: docs/RULES.md, "One second of a stock".
 abbrev pub gain_once : ℕ → ℕ → ℕ → ℕ
 gain_once limit hourly grains = if nat_lt grains limit then min (grains + hourly) limit else grains
 
--- what a planet yields an hour, in units: the basic income, which grows with the universe's speed
+-- What a planet yields an hour, in units: the basic income, which grows with the universe's speed.
+-- Rule: docs/RULES.md, "Basic income".
 abbrev pub hourly_yield : ℕ → Resources
 hourly_yield speed = record { metal = 20 * speed; crystal = 10 * speed; deuterium = 0 }
 
--- what a planet stores, in units: it has no stores beyond the room that each has
+-- What a planet stores, in units: it has no stores beyond the room that each has. Rule: docs/RULES.md, "Limits".
 abbrev pub stored : Resources
 stored = record { metal = STORAGE; crystal = STORAGE; deuterium = STORAGE }
 
--- the whole units of stocks, floored
+-- The whole units of stocks, floored. Rule: docs/RULES.md, "Resources and grains".
 abbrev pub whole : Resources → Resources
 whole stock = record { metal = stock.metal / GRAINS; crystal = stock.crystal / GRAINS; deuterium = stock.deuterium / GRAINS }
 
--- one second of a planet: each of its stocks gains its hourly yield, up to the room in its store
+-- One second of a planet: each of its stocks gains its hourly yield, up to the room in its store.
+-- Rule: docs/RULES.md, "One second of a stock".
 abbrev pub stocks_second : ℕ → Resources → Resources
 stocks_second speed stock =
     record {
@@ -28,7 +32,7 @@ stocks_second speed stock =
       deuterium = gain_once (GRAINS * stored.deuterium) (hourly_yield speed).deuterium stock.deuterium;
     }
 
--- no stock holds more than CAP units
+-- No stock holds more than CAP units. Rule: docs/RULES.md, "Resources and grains".
 pub record IsWithinCap (stock : Resources) : Type 0 where
   pub metal : stock.metal ≤ GRAINS * CAP
   pub crystal : stock.crystal ≤ GRAINS * CAP

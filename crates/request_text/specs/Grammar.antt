@@ -1,4 +1,5 @@
 -- The grammar of a script: which lines spell which call. Each call is spelled by one list of words.
+-- Rule: docs/PROTOCOL.md, "The script".
 use Rattle.std.specs.Prelude.{◌≡◌, ℕ, List, ◌∷◌}
 use Rattle.std.specs.Fmt.{decimal}
 use Rattle.base_text.specs.Parts.{words}

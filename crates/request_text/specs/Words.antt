@@ -1,4 +1,4 @@
--- The words of requests.
+-- The words of requests. Rule: docs/PROTOCOL.md, "The script".
 use Rattle.std.specs.Prelude.{ℕ, List, [], ◌∷◌, codes}
 use Rattle.base_ids.specs.Text.{coord_text}
 use Rattle.request_text.specs.declared.request.Request.{Request}

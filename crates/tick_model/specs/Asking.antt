@@ -1,4 +1,4 @@
--- What it is to ask a universe.
+-- What it is to ask a universe. Rule: docs/RULES.md, "Time and order".
 use Rattle.std.specs.Prelude.{◌≡◌, ℕ, ◌+◌, ◌-◌, max}
 use Rattle.rates.specs.Times.{times}
 use Rattle.request_text.specs.declared.call.Call.{Call}

@@ -1,4 +1,4 @@
--- Which histories there can be.
+-- Which histories there can be. Rule: docs/RULES.md, "Time and order".
 use Rattle.std.specs.Prelude.{◌≡◌, ℕ, ◌+◌, max, List, [], ◌∷◌}
 use Rattle.request_text.specs.declared.entry.Entry.{Entry}
 use Rattle.tick_model.specs.Universe.{Universe}

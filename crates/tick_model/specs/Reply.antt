@@ -1,4 +1,4 @@
--- What a request is answered, and how that is written.
+-- What a request is answered, and how that is written. Rules: docs/PROTOCOL.md, "Answers".
 use Rattle.std.specs.Prelude.{ℕ, ◌==◌, List, [], ◌∷◌, ◌++◌, codes, if◌then◌else◌}
 use Rattle.std.specs.Fmt.{decimal, signed_decimal}
 use Rattle.base_ids.specs.Text.{coord_text, player_text}
@@ -23,7 +23,7 @@ planet_line planet =
 abbrev pub amounts_line : List ℕ → Resources → List ℕ
 amounts_line name amounts = line (name ∷ decimal amounts.metal ∷ decimal amounts.crystal ∷ decimal amounts.deuterium ∷ [])
 
--- The lines that show a planet: itself; in whole units its stocks, what it yields an hour and what it stores;
+-- The lines that show a planet (docs/PROTOCOL.md, "The lines of a planet"): itself; in whole units its stocks, what it yields an hour and what it stores;
 -- the energy given and needed; and the metal and crystal of its debris.
 unfoldable pub planet_text : Rules → PlanetFields → List ℕ
 planet_text rules planet =

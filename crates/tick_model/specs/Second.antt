@@ -1,4 +1,4 @@
--- One second.
+-- One second. Rules: docs/RULES.md, "Time and order" and "One second of a stock".
 use Rattle.std.specs.Prelude.{ℕ, ◌+◌}
 use Rattle.rates.specs.Stock.{stocks_second}
 use Rattle.rates.specs.Times.{times}

@@ -1,4 +1,4 @@
--- One request.
+-- One request. Rules: docs/RULES.md, "The request `planet C`".
 use Rattle.std.specs.Prelude.{ℕ, List, [], ◌++◌, Bool, true, false, not, ◌&&◌, ◌||◌, Option, Some, filter, if◌then◌else◌}
 use Rattle.std.specs.List.{filter_map}
 use Rattle.base_ids.specs.Cells.{same_cell, same_player}
@@ -82,7 +82,7 @@ pub record Stepped : Type 0 where
   pub reply : Reply
 
 -- One request acts in a universe that stands at its moment. A request that is refused changes nothing but the
--- last number.
+-- last number. Rule: docs/RULES.md, "Time and order".
 unfoldable pub step : Universe → Entry → Stepped
 step universe entry =
     let cells = asked (view universe) entry.player entry.req in

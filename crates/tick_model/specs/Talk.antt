@@ -1,4 +1,4 @@
--- What is answered to the lines of a script.
+-- What is answered to the lines of a script. Rules: docs/PROTOCOL.md, "The script" and "Answers".
 use Rattle.std.specs.Prelude.{◌≡◌, ℕ, List, [], ◌∷◌, ◌++◌, codes}
 use Rattle.request_text.specs.Grammar.{Spells, IsOutside}
 use Rattle.request_text.specs.declared.call.Call.{Call}

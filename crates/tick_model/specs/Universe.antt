@@ -1,4 +1,5 @@
--- A universe as its rules see it: one clock, and every planet at the same second.
+-- A universe as its rules see it: one clock, and every planet at the same second. Rule: docs/RULES.md, "Time and
+-- order".
 use Rattle.std.specs.Prelude.{ℕ, ℤ, List, Bool, filter, ◌&&◌, ◌||◌}
 use Rattle.base_ids.specs.Cells.{same_cell}
 use Rattle.base_ids.specs.declared.coord.Coord.{Coord}

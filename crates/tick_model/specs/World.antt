@@ -1,4 +1,4 @@
--- The universe that ticks second by second through a history.
+-- The universe that ticks second by second through a history. Rule: docs/RULES.md, "Time and order".
 use Rattle.std.specs.Prelude.{ℕ, zero, suc, ◌+◌, ◌-◌, ◌==◌, List, [], ◌∷◌, filter}
 use Rattle.request_text.specs.declared.entry.Entry.{Entry}
 use Rattle.tick_model.specs.Universe.{Universe}

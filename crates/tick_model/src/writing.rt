@@ -56,6 +56,8 @@ pub fn planet_lines(alloc: Global, rules: Rules, planet: Planet) -> Result<Bytes
 }
 
 /// Appends the text of a reply.
+///
+/// It fails only where memory runs out; a front of the text may then have been appended.
 #[tactic(auto, unfolding(crate::specs::Reply::text, crate::specs::Reply::line))]
 pub fn write_reply(alloc: Global, reply: &Reply, out: &mut Bytes) -> Result<(), AllocError>
     ensures { OnOk result (out.new ≡ out.old ++ text reply.now) }
