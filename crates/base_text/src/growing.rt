@@ -1,4 +1,4 @@
-ghost use Rattle.std.specs.Prelude.{◌≡◌, ◌==◌, List, ℕ, [], ◌∷◌, ◌++◌, length, OnOk, OnErr, IfOk, string_bytes};
+ghost use Rattle.std.specs.Prelude.{◌≡◌, ◌==◌, List, ℕ, [], ◌∷◌, ◌++◌, length, OnOk, OnErr, string_bytes};
 ghost use Rattle.std.proofs.Common.{rules};
 ghost use Rattle.std.specs.Cmp.Rules.{comparing};
 ghost use Rattle.std.specs.Cmp.Lexicographic.{pointwise};
@@ -40,14 +40,6 @@ impl Bytes {
         Bytes {
             items: Vec::new(alloc),
         }
-    }
-
-    /// No bytes, with room for `capacity` of them. It fails only where memory runs out.
-    pub fn with_capacity(alloc: Global, capacity: usize) -> Result<Bytes, AllocError>
-        ensures { IfOk result (λ b. b ≡ []) }
-    {
-        let items = Vec::with_capacity(alloc, capacity)?;
-        Ok(Bytes { items })
     }
 
     /// The bytes of `bytes`, in its memory.

@@ -129,7 +129,7 @@ fn bytes_grow_line_by_line(rt: HostRuntime) -> Result<(), Fail> {
 fn bytes_take_over_what_is_there(rt: HostRuntime) -> Result<(), Fail> {
     let from_vec = Bytes::from_vec(b"abc".to_vec(rt.alloc())?);
     let from_string = Bytes::from_string(String::from_str(rt.alloc(), "abc")?);
-    let mut pushed = Bytes::with_capacity(rt.alloc(), 3)?;
+    let mut pushed = Bytes::new(rt.alloc());
     pushed.push(b"abc")?;
     assert!(rt; from_vec == from_string);
     assert!(rt; from_string == pushed);

@@ -14,7 +14,7 @@ gain_once limit hourly grains = if nat_lt grains limit then min (grains + hourly
 abbrev pub hourly_yield : ℕ → Resources
 hourly_yield speed = record { metal = 20 * speed; crystal = 10 * speed; deuterium = 0 }
 
--- What a planet stores, in units: it has no stores beyond the room that each has. Rule: docs/RULES.md, "Limits".
+-- Up to where production fills a planet's stocks, in units: no store can be built yet. Rule: docs/RULES.md, "Limits".
 abbrev pub stored : Resources
 stored = record { metal = STORAGE; crystal = STORAGE; deuterium = STORAGE }
 
@@ -22,7 +22,7 @@ stored = record { metal = STORAGE; crystal = STORAGE; deuterium = STORAGE }
 abbrev pub whole : Resources → Resources
 whole stock = record { metal = stock.metal / GRAINS; crystal = stock.crystal / GRAINS; deuterium = stock.deuterium / GRAINS }
 
--- One second of a planet: each of its stocks gains its hourly yield, up to the room in its store.
+-- One second of a planet: each of its stocks gains its hourly yield, up to its limit.
 -- Rule: docs/RULES.md, "One second of a stock".
 abbrev pub stocks_second : ℕ → Resources → Resources
 stocks_second speed stock =

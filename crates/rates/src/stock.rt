@@ -10,7 +10,7 @@ pub const GRAINS: u64 = 3600;
 /// The most units that a stock holds.
 pub const CAP: u64 = 4_000_000_000_000;
 
-/// The units of each resource that a planet without stores has room for.
+/// The units of each resource up to which production fills a planet's stock, while no store can be built.
 pub const STORAGE: u64 = 10_000;
 
 /// The grains of a stock after `seconds` seconds of a yield of `hourly` units an hour.
@@ -50,7 +50,7 @@ pub fn basic_income(speed: u32) -> Resources
     }
 }
 
-/// What a planet without stores stores of each resource, in units.
+/// Up to where production fills a planet's stocks, in units.
 pub fn storage() -> Resources
     ensures { result ≡ stored }
 {

@@ -4,11 +4,13 @@
 mod call;
 mod coordinates;
 mod entry;
+mod laws;
 mod request;
 
 pub use call::Call;
 pub use coordinates::{coord, player};
 pub use entry::Entry;
+pub use laws::spell_once;
 pub use request::Request;
 
 #[cfg(test)]

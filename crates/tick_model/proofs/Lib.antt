@@ -1,4 +1,5 @@
 pub mod Maps
+pub mod Once
 pub mod Standing
 pub mod Steps
 pub mod Talks

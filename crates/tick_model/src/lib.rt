@@ -3,6 +3,7 @@
 #![tactic(auto)]
 
 mod acting;
+mod laws;
 mod planet;
 mod reply;
 mod rules;
@@ -12,6 +13,7 @@ mod ticking;
 mod writing;
 
 pub use acting::{Acted, NO_PLANET, NO_PLAYER, NOT_YOURS, show_planet};
+pub use laws::answer_once;
 pub use planet::Planet;
 pub use reply::Reply;
 pub use rules::Rules;
