@@ -1,1 +1,4 @@
 pub mod Kinds
+pub mod Classes
+pub mod Missions
+pub mod Texts
