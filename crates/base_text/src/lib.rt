@@ -2,6 +2,7 @@
 //! a list of bytes that grows.
 #![tactic(auto)]
 
+mod cursor;
 mod cutting;
 mod growing;
 mod numbers;
@@ -9,6 +10,7 @@ mod signs;
 #[cfg(test)]
 mod tests;
 
+pub use cursor::Parts;
 pub use cutting::{cut, is_same, next_line, word};
 pub use growing::Bytes;
 pub use numbers::{number, positive_number};

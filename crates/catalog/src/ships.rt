@@ -1,4 +1,4 @@
-ghost use Rattle.std.specs.Prelude.{IsTrue, nat_le, nat_lt};
+ghost use Rattle.std.specs.Prelude.{◌≡◌, IsTrue, length, nat_le, nat_lt};
 ghost use Rattle.std.specs.List.{list_all, list_any};
 ghost use Rattle.catalog.specs.declared.ships.TheConstants.{UNITS};
 ghost use Rattle.std.specs.Prelude.{◌∷◌, if◌then◌else◌};
@@ -33,6 +33,7 @@ pub const SHIPS: [Kind; 13] = [
 #[derive(Clone, Copy, Debug, PartialEq, Eq)]
 pub struct Ships {
     pub n: [u32; 13],
+    pub ghost kinds: { length n ≡ 13 },
     pub ghost within: { IsTrue (list_all (λ count. nat_le count UNITS) n) },
     pub ghost some: { IsTrue (list_any (λ count. nat_lt 0 count) n) },
 }

@@ -1,2 +1,2 @@
-pub mod Requests
-pub mod Spellings
+pub mod Colons
+pub mod Heads

@@ -1,9 +1,10 @@
 ghost use Rattle.std.specs.Prelude.{◌≡◌, MatchOption};
-ghost use Rattle.base_ids.specs.Text.{coord_text, player_text};
+ghost use Rattle.base_ids.specs.Text.{coord_text, player_text, system_text};
 ghost use Rattle.base_ids.specs.declared.coord.Coord.{Coord};
 ghost use Rattle.base_ids.specs.declared.player.Player.{Player};
+ghost use Rattle.base_ids.specs.declared.system.System.{System};
 
-use base_ids::{Coord, Player};
+use base_ids::{Coord, Player, System};
 use base_text::{cut, positive_number};
 
 /// The coordinate that a word spells, as `1:499:15`. `None` exactly where it spells none.
@@ -45,4 +46,26 @@ pub fn player(word: &[u8]) -> Option<Player>
         return None;
     };
     Some(Player { k: k as u32 })
+}
+
+/// The system that a word spells, as `1:499`. `None` exactly where it spells none.
+#[tactic(auto, using(crate::proofs::Colons::systems))]
+pub fn system(word: &[u8]) -> Option<System>
+    ensures { MatchOption result
+        ((at : System) → word.now ≡ system_text at → ⊥)
+        (λ at. word.now ≡ system_text at) }
+{
+    let Some((galaxy, number)) = cut(word, b':') else {
+        return None;
+    };
+    let Some(g) = positive_number(galaxy, 9) else {
+        return None;
+    };
+    let Some(s) = positive_number(number, 499) else {
+        return None;
+    };
+    Some(System {
+        g: g as u8,
+        s: s as u16,
+    })
 }

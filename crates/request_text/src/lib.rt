@@ -1,17 +1,11 @@
 //! Requests: what a player may ask of a universe, and how it is spelled.
 #![tactic(auto)]
 
-mod call;
+pub mod arguments;
 mod coordinates;
-mod entry;
-mod laws;
+mod form;
 mod request;
 
-pub use call::Call;
-pub use coordinates::{coord, player};
-pub use entry::Entry;
-pub use laws::spell_once;
+pub use coordinates::{coord, player, system};
+pub use form::Form;
 pub use request::Request;
-
-#[cfg(test)]
-mod tests;
