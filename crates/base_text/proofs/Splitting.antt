@@ -1,13 +1,12 @@
 -- A text and its parts: how they follow from where a separator stands, and how they determine the text.
-use Rattle.std.proofs.Common.{◌≡◌, ◌≢◌, ℕ, suc, ◌+◌, ◌-◌, ◌<◌, Bool, true, false, List, [], ◌∷◌, ◌++◌, length, get_or, take, drop, refl, ◌∙◌, ap, arith, slice_get, Bor, sym, eqb, ne_eqb, eq-eqb, add-one, cond, length-drop, take_all, None}
-use Rattle.std.specs.Prelude.{Option, Some, is_some, not, option_copied}
+use Rattle.std.proofs.Common.{◌≡◌, ◌≢◌, ℕ, suc, ◌+◌, ◌-◌, ◌<◌, Bool, true, false, List, [], ◌∷◌, ◌++◌, length, get_or, take, drop, refl, ◌∙◌, ap, arith, slice_get, eqb, ne_eqb, eq-eqb, add-one, cond, length-drop, take_all, None}
 use Rattle.std.specs.List.{All, onto_first, join_with_byte}
 use Rattle.std.specs.Str.Lines.{lines, strip_carriage_return}
 use Rattle.std.proofs.Math.Seq.{split_at}
 use Rattle.std.proofs.lemmas.Grind.{common_steps}
 use Rattle.std.proofs.lemmas.List.{get_or_default, get_or-take}
 use Rattle.std.proofs.lemmas.List.Splits.{slice_split_none, slice_split_at, join_with_byte-slice_split}
-use Rattle.base_text.specs.Parts.{parts, parts_of, Lacks}
+use Rattle.base_text.specs.Parts.{parts, Lacks}
 
 all_apart : (c : ℕ) (text : List ℕ) → Lacks c text → All (λ x. eqb x c ≡ false) text
 all_apart c text free k d h = rw (get_or_default text k d 0 h) (ne_eqb (get_or text k 0) c (free.apart k h))
@@ -85,12 +84,3 @@ pub lines-join_plain : (line rest : List ℕ) → Lacks 10 line → Lacks 13 lin
 lines-join_plain line rest free plain = lines-join line rest free ∙ ap (λ first. first ∷ lines rest) (strip_none line plain)
 
 pub ruleset lining = (lines-cut, lines-last)
-
--- no part is left exactly where no text is
-pub ends_at : (c : ℕ) (rest : Option (Bor (List ℕ))) (ended : Bool) (left : List (List ℕ)) → is_some rest ≡ not ended → parts_of c (option_copied rest) ≡ left → (ended ≡ true → left ≡ []) × (left ≡ [] → ended ≡ true)
-ends_at c None true left tells view = (λ e. sym view, λ e. refl)
-ends_at c None false left tells view = absurd (cc)
-ends_at c (Some text) true left tells view = absurd (cc)
-ends_at c (Some text) false left tells view =
-    let (first, (more, is)) = parts-more c text.now in
-    (λ e. absurd (cc), λ e. let both : first ∷ more ≡ [] = sym is ∙ view ∙ e in cc)

@@ -1,35 +1,69 @@
-ghost use Rattle.std.specs.Prelude.{◌≡◌, ◌==◌, ◌↔◌, List, ℕ, [], ◌∷◌, IsTrue, MatchOption};
+ghost use Rattle.std.specs.Prelude.{◌≡◌, ◌↔◌, List, ℕ, [], ◌∷◌, IsTrue, MatchOption, option_copied};
+ghost use Rattle.base_text.specs.Parts.{parts, parts_of};
 
 use crate::cutting::cut;
 use std::marker::Model;
 
-/// Goes through the parts of a text between its separators, one by one. Contracts see it as the list of the parts that are
-/// left.
+/// A part of a text, and the text after the separator behind it, if there is one.
+#[derive(Clone, Copy)]
+struct Piece<'a> {
+    part: &'a [u8],
+    rest: Option<&'a [u8]>,
+}
+
+/// The first part of the text.
+fn first_piece(text: &[u8], separator: u8) -> Piece<'_>
+    ensures { parts separator text.now ≡ result.part.now ∷ parts_of separator (option_copied result.rest) }
+{
+    match cut(text, separator) {
+        Some((part, rest)) => Piece {
+            part,
+            rest: Some(rest),
+        },
+        None => Piece {
+            part: text,
+            rest: None,
+        },
+    }
+}
+
+/// Goes through the parts of a text between its separators, each byte once. Contracts see it as the list of the parts
+/// that are left.
 #[derive(Drop)]
 pub struct Parts<'a> {
-    rest: Option<&'a [u8]>,
+    piece: Option<Piece<'a>>,
     separator: u8,
 }
 
 impl<'a> Model for Parts<'a> {
-    ghost use Rattle.base_text.specs.Parts.{parts_of};
-    ghost use Rattle.std.specs.Prelude.{List, ℕ, option_copied};
+    ghost use Rattle.std.specs.Prelude.{List, ℕ};
+    ghost use Rattle.base_text.specs.Pieces.{pieces};
 
     ghost Value = { List (List ℕ) };
 
-    ghost view = { λ p. parts_of p.separator (option_copied p.rest) };
+    ghost view = { λ p. pieces p.separator p.piece };
 }
 
 impl<'a> Parts<'a> {
-    ghost use Rattle.base_text.specs.Parts.{parts};
-
     /// All parts of the text. A text without the separator is one part.
     pub fn new(text: &'a [u8], separator: u8) -> Parts<'a>
         ensures { result ≡ parts separator text.now }
     {
         Parts {
-            rest: Some(text),
+            piece: Some(first_piece(text, separator)),
             separator,
+        }
+    }
+
+    /// The next part, which stays. `None` exactly where none is left.
+    pub fn peek(&self) -> Option<&'a [u8]>
+        ensures { MatchOption result
+            (self.now ≡ [])
+            (λ part. (rest : List (List ℕ)) × (self.now ≡ part.now ∷ rest)) }
+    {
+        match self.piece {
+            Some(piece) => Some(piece.part),
+            None => None,
         }
     }
 
@@ -39,23 +73,18 @@ impl<'a> Parts<'a> {
             ((self.old ≡ []) × (self.new ≡ []))
             (λ part. self.old ≡ part.now ∷ self.new) }
     {
-        let text = self.rest?;
-        match cut(text, self.separator) {
-            Some((part, rest)) => {
-                self.rest = Some(rest);
-                Some(part)
-            }
-            None => {
-                self.rest = None;
-                Some(text)
-            }
-        }
+        let piece = self.piece?;
+        self.piece = match piece.rest {
+            Some(text) => Some(first_piece(text, self.separator)),
+            None => None,
+        };
+        Some(piece.part)
     }
 
     /// Whether no part is left.
     pub fn is_at_end(&self) -> bool
         ensures { IsTrue result ↔ (self.now ≡ []) }
     {
-        self.rest.is_none()
+        self.piece.is_none()
     }
 }

@@ -1,2 +1,4 @@
+pub mod Flights
 pub mod Forms
+pub mod Ships
 pub mod Words

@@ -1,11 +1,11 @@
 -- The words of requests. Rule: docs/PROTOCOL.md, "Requests".
-use Rattle.std.specs.Prelude.{ℕ, List, [], ◌∷◌}
+use Rattle.std.specs.Prelude.{◌≡◌, ℕ, List, [], ◌∷◌}
 use Rattle.std.specs.List.{join_with_byte}
 use Rattle.std.specs.Fmt.{decimal}
 use Rattle.base_ids.specs.Text.{coord_text, system_text}
 use Rattle.catalog.specs.Kinds.{kind_word}
 use Rattle.catalog.specs.Missions.{mission_word}
-use Rattle.catalog.specs.Texts.{ships_text}
+use Rattle.request_text.specs.Flights.{flight_words}
 use Rattle.request_text.specs.Forms.{form_word}
 use Rattle.request_text.specs.declared.form.Form.{Form}
 use Rattle.request_text.specs.declared.form.Form.TheVariants as F
@@ -36,11 +36,13 @@ argument_words (Build at building) = coord_text at ∷ kind_word building.kind �
 argument_words (Research at technology) = coord_text at ∷ kind_word technology.kind ∷ []
 argument_words (Yard at unit count) = coord_text at ∷ kind_word unit.kind ∷ decimal count.n ∷ []
 argument_words (Set at work tenths) = coord_text at ∷ kind_word work.kind ∷ decimal tenths.n ∷ []
-argument_words (Send from to mission setting ships cargo) =
-    coord_text from ∷ coord_text to ∷ mission_word mission ∷ decimal setting.p ∷ ships_text ships.n ∷ decimal cargo.m ∷ decimal cargo.c ∷ decimal cargo.d ∷ []
-argument_words (Join fleet from to setting ships cargo) =
-    decimal fleet.f ∷ coord_text from ∷ coord_text to ∷ decimal setting.p ∷ ships_text ships.n ∷ decimal cargo.m ∷ decimal cargo.c ∷ decimal cargo.d ∷ []
+argument_words (Send from to mission setting ships cargo) = coord_text from ∷ coord_text to ∷ mission_word mission ∷ flight_words setting ships cargo []
+argument_words (Join fleet from to setting ships cargo) = decimal fleet.f ∷ coord_text from ∷ coord_text to ∷ flight_words setting ships cargo []
 argument_words (Recall fleet) = decimal fleet.f ∷ []
+
+-- a request is of this form and has these words after the first
+abbrev pub IsSpelled : Form → List (List ℕ) → Request → Type 0
+IsSpelled form arguments req = (form_of req ≡ form) × (arguments ≡ argument_words req)
 
 -- the words that spell a request
 abbrev pub request_words : Request → List (List ℕ)

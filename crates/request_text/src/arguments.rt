@@ -1,11 +1,14 @@
 // The words of a request after the first, read one by one.
 ghost use Rattle.std.specs.Prelude.{◌≡◌, ◌≤◌, ◌∷◌, ℕ, List, MatchOption};
 ghost use Rattle.std.specs.Fmt.{decimal};
-ghost use Rattle.base_ids.specs.Text.{coord_text};
+ghost use Rattle.base_ids.specs.Text.{coord_text, system_text};
 ghost use Rattle.base_ids.specs.declared.coord.Coord.{Coord};
+ghost use Rattle.base_ids.specs.declared.system.System.{System};
 ghost use Rattle.base_ids.specs.declared.fleet_number.FleetNumber.{FleetNumber};
 ghost use Rattle.catalog.specs.Kinds.{kind_word};
 ghost use Rattle.catalog.specs.Missions.{mission_word};
+ghost use Rattle.catalog.specs.Texts.{ships_text};
+ghost use Rattle.catalog.specs.declared.ships.Ships.{Ships};
 ghost use Rattle.catalog.specs.declared.classes.Building.{Building};
 ghost use Rattle.catalog.specs.declared.classes.Technology.{Technology};
 ghost use Rattle.catalog.specs.declared.classes.Unit.{Unit};
@@ -15,12 +18,15 @@ ghost use Rattle.catalog.specs.declared.settings.Count.{Count};
 ghost use Rattle.catalog.specs.declared.settings.SpeedSetting.{SpeedSetting};
 ghost use Rattle.catalog.specs.declared.settings.Tenths.{Tenths};
 ghost use Rattle.catalog.specs.declared.amounts.Amounts.{Amounts};
+ghost use Rattle.request_text.specs.Flights.{flight_words};
 
-use crate::coordinates::coord;
-use base_ids::{Coord, FleetNumber};
+use crate::coordinates::{coord, system};
+use crate::ships::ships;
+use base_ids::{Coord, FleetNumber, System};
 use base_text::{Parts, number, positive_number};
 use catalog::{
-    Amounts, Building, CAP, Count, Mission, SpeedSetting, Technology, Tenths, UNITS, Unit, Work,
+    Amounts, Building, CAP, Count, Mission, Ships, SpeedSetting, Technology, Tenths, UNITS, Unit,
+    Work,
 };
 
 /// Takes a coordinate. `None` exactly where the next word spells none.
@@ -204,4 +210,69 @@ pub fn next_amounts(words: &mut Parts) -> Option<Amounts>
         return None;
     };
     Some(Amounts { m, c, d })
+}
+
+/// Takes ships. `None` exactly where the next word spells none.
+pub fn next_ships(words: &mut Parts) -> Option<Ships>
+    ensures { MatchOption result
+        ((ships : Ships) (more : List (List ℕ)) → words.old ≡ ships_text ships.n ∷ more → ⊥)
+        (λ ships. words.old ≡ ships_text ships.n ∷ words.new) }
+{
+    let Some(word) = words.next() else {
+        return None;
+    };
+    let Some(ships) = ships(word) else {
+        return None;
+    };
+    Some(ships)
+}
+
+/// Takes a system. `None` exactly where the next word spells none.
+pub fn next_system(words: &mut Parts) -> Option<System>
+    ensures { MatchOption result
+        ((at : System) (more : List (List ℕ)) → words.old ≡ system_text at ∷ more → ⊥)
+        (λ at. words.old ≡ system_text at ∷ words.new) }
+{
+    let Some(word) = words.next() else {
+        return None;
+    };
+    let Some(at) = system(word) else {
+        return None;
+    };
+    Some(at)
+}
+
+/// Takes where a fleet leaves and where it flies. `None` exactly where the next two words are not two coordinates.
+pub fn next_route(words: &mut Parts) -> Option<(Coord, Coord)>
+    ensures { MatchOption result
+        ((from to : Coord) (more : List (List ℕ)) → words.old ≡ coord_text from ∷ coord_text to ∷ more → ⊥)
+        (λ route. words.old ≡ coord_text route.0 ∷ coord_text route.1 ∷ words.new) }
+{
+    let Some(from) = next_coord(words) else {
+        return None;
+    };
+    let Some(to) = next_coord(words) else {
+        return None;
+    };
+    Some((from, to))
+}
+
+/// Takes the speed setting, the ships and the cargo of a fleet, which are five words. `None` exactly where the next words
+/// spell none.
+pub fn next_flight(words: &mut Parts) -> Option<(SpeedSetting, Ships, Amounts)>
+    ensures { MatchOption result
+        ((setting : SpeedSetting) (ships : Ships) (cargo : Amounts) (more : List (List ℕ))
+        → words.old ≡ flight_words setting ships cargo more → ⊥)
+        (λ flight. words.old ≡ flight_words flight.0 flight.1 flight.2 words.new) }
+{
+    let Some(setting) = next_setting(words) else {
+        return None;
+    };
+    let Some(ships) = next_ships(words) else {
+        return None;
+    };
+    let Some(cargo) = next_amounts(words) else {
+        return None;
+    };
+    Some((setting, ships, cargo))
 }

@@ -4,7 +4,9 @@
 pub mod arguments;
 mod coordinates;
 mod form;
+pub mod forms;
 mod request;
+pub mod ships;
 
 pub use coordinates::{coord, player, system};
 pub use form::Form;

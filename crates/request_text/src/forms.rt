@@ -1,0 +1,203 @@
+// The words after the first of each form of request.
+ghost use Rattle.std.specs.Prelude.{◌≡◌, [], ◌∷◌, MatchOption};
+ghost use Rattle.std.specs.Fmt.{decimal};
+ghost use Rattle.base_ids.specs.Text.{coord_text, system_text};
+ghost use Rattle.base_ids.specs.declared.coord.Coord.{Coord};
+ghost use Rattle.base_ids.specs.declared.fleet_number.FleetNumber.{FleetNumber};
+ghost use Rattle.base_ids.specs.declared.system.System.{System};
+ghost use Rattle.catalog.specs.Kinds.{kind_word};
+ghost use Rattle.catalog.specs.Missions.{mission_word};
+ghost use Rattle.catalog.specs.declared.amounts.Amounts.{Amounts};
+ghost use Rattle.catalog.specs.declared.classes.Building.{Building};
+ghost use Rattle.catalog.specs.declared.classes.Technology.{Technology};
+ghost use Rattle.catalog.specs.declared.classes.Unit.{Unit};
+ghost use Rattle.catalog.specs.declared.classes.Work.{Work};
+ghost use Rattle.catalog.specs.declared.mission.Mission.{Mission};
+ghost use Rattle.catalog.specs.declared.settings.Count.{Count};
+ghost use Rattle.catalog.specs.declared.settings.SpeedSetting.{SpeedSetting};
+ghost use Rattle.catalog.specs.declared.settings.Tenths.{Tenths};
+ghost use Rattle.catalog.specs.declared.ships.Ships.{Ships};
+ghost use Rattle.request_text.specs.Flights.{flight_words};
+ghost use Rattle.request_text.specs.Words.{IsSpelled};
+
+use crate::arguments::{
+    next_building, next_coord, next_count, next_fleet, next_flight, next_mission, next_route,
+    next_system, next_technology, next_tenths, next_unit, next_work,
+};
+use crate::form::Form;
+use crate::request::Request;
+use base_text::Parts;
+
+/// Reads the words `C` of `planet`. `None` exactly where they are not such words.
+pub fn planet(words: &mut Parts) -> Option<Request>
+    ensures { MatchOption result
+        ((at : Coord)
+        → words.old ≡ coord_text at ∷ [] → ⊥)
+        (IsSpelled Form.Planet words.old) }
+{
+    let Some(at) = next_coord(words) else {
+        return None;
+    };
+    if !words.is_at_end() {
+        return None;
+    }
+    Some(Request::Planet(at))
+}
+
+/// Reads the words `G:S` of `system`. `None` exactly where they are not such words.
+pub fn system(words: &mut Parts) -> Option<Request>
+    ensures { MatchOption result
+        ((system : System)
+        → words.old ≡ system_text system ∷ [] → ⊥)
+        (IsSpelled Form.System words.old) }
+{
+    let Some(system) = next_system(words) else {
+        return None;
+    };
+    if !words.is_at_end() {
+        return None;
+    }
+    Some(Request::System(system))
+}
+
+/// Reads the words `C BUILDING` of `build`. `None` exactly where they are not such words.
+pub fn build(words: &mut Parts) -> Option<Request>
+    ensures { MatchOption result
+        ((at : Coord) (building : Building)
+        → words.old ≡ coord_text at ∷ kind_word building.kind ∷ [] → ⊥)
+        (IsSpelled Form.Build words.old) }
+{
+    let Some(at) = next_coord(words) else {
+        return None;
+    };
+    let Some(building) = next_building(words) else {
+        return None;
+    };
+    if !words.is_at_end() {
+        return None;
+    }
+    Some(Request::Build(at, building))
+}
+
+/// Reads the words `C TECH` of `research`. `None` exactly where they are not such words.
+pub fn research(words: &mut Parts) -> Option<Request>
+    ensures { MatchOption result
+        ((at : Coord) (technology : Technology)
+        → words.old ≡ coord_text at ∷ kind_word technology.kind ∷ [] → ⊥)
+        (IsSpelled Form.Research words.old) }
+{
+    let Some(at) = next_coord(words) else {
+        return None;
+    };
+    let Some(technology) = next_technology(words) else {
+        return None;
+    };
+    if !words.is_at_end() {
+        return None;
+    }
+    Some(Request::Research(at, technology))
+}
+
+/// Reads the words `C UNIT N` of `yard`. `None` exactly where they are not such words.
+pub fn yard(words: &mut Parts) -> Option<Request>
+    ensures { MatchOption result
+        ((at : Coord) (unit : Unit) (count : Count)
+        → words.old ≡ coord_text at ∷ kind_word unit.kind ∷ decimal count.n ∷ [] → ⊥)
+        (IsSpelled Form.Yard words.old) }
+{
+    let Some(at) = next_coord(words) else {
+        return None;
+    };
+    let Some(unit) = next_unit(words) else {
+        return None;
+    };
+    let Some(count) = next_count(words) else {
+        return None;
+    };
+    if !words.is_at_end() {
+        return None;
+    }
+    Some(Request::Yard(at, unit, count))
+}
+
+/// Reads the words `C WORK N` of `set`. `None` exactly where they are not such words.
+pub fn set(words: &mut Parts) -> Option<Request>
+    ensures { MatchOption result
+        ((at : Coord) (work : Work) (tenths : Tenths)
+        → words.old ≡ coord_text at ∷ kind_word work.kind ∷ decimal tenths.n ∷ [] → ⊥)
+        (IsSpelled Form.Set words.old) }
+{
+    let Some(at) = next_coord(words) else {
+        return None;
+    };
+    let Some(work) = next_work(words) else {
+        return None;
+    };
+    let Some(tenths) = next_tenths(words) else {
+        return None;
+    };
+    if !words.is_at_end() {
+        return None;
+    }
+    Some(Request::Set(at, work, tenths))
+}
+
+/// Reads the words `A B MISSION P SHIPS M C D` of `send`. `None` exactly where they are not such words.
+pub fn send(words: &mut Parts) -> Option<Request>
+    ensures { MatchOption result
+        ((from : Coord) (to : Coord) (mission : Mission) (setting : SpeedSetting) (ships : Ships) (cargo : Amounts)
+        → words.old ≡ coord_text from ∷ coord_text to ∷ mission_word mission ∷ flight_words setting ships cargo [] → ⊥)
+        (IsSpelled Form.Send words.old) }
+{
+    let Some((from, to)) = next_route(words) else {
+        return None;
+    };
+    let Some(mission) = next_mission(words) else {
+        return None;
+    };
+    let Some((setting, ships, cargo)) = next_flight(words) else {
+        return None;
+    };
+    if !words.is_at_end() {
+        return None;
+    }
+    Some(Request::Send(from, to, mission, setting, ships, cargo))
+}
+
+/// Reads the words `F A B P SHIPS M C D` of `join`. `None` exactly where they are not such words.
+pub fn join(words: &mut Parts) -> Option<Request>
+    ensures { MatchOption result
+        ((fleet : FleetNumber) (from : Coord) (to : Coord) (setting : SpeedSetting) (ships : Ships) (cargo : Amounts)
+        → words.old ≡ decimal fleet.f ∷ coord_text from ∷ coord_text to ∷ flight_words setting ships cargo [] → ⊥)
+        (IsSpelled Form.Join words.old) }
+{
+    let Some(fleet) = next_fleet(words) else {
+        return None;
+    };
+    let Some((from, to)) = next_route(words) else {
+        return None;
+    };
+    let Some((setting, ships, cargo)) = next_flight(words) else {
+        return None;
+    };
+    if !words.is_at_end() {
+        return None;
+    }
+    Some(Request::Join(fleet, from, to, setting, ships, cargo))
+}
+
+/// Reads the words `F` of `recall`. `None` exactly where they are not such words.
+pub fn recall(words: &mut Parts) -> Option<Request>
+    ensures { MatchOption result
+        ((fleet : FleetNumber)
+        → words.old ≡ decimal fleet.f ∷ [] → ⊥)
+        (IsSpelled Form.Recall words.old) }
+{
+    let Some(fleet) = next_fleet(words) else {
+        return None;
+    };
+    if !words.is_at_end() {
+        return None;
+    }
+    Some(Request::Recall(fleet))
+}
