@@ -16,7 +16,7 @@ use Rattle.request_text.specs.Ships.{Begins, Counted, IsOther, IsUncounted}
 use Rattle.request_text.proofs.Plain.{kind_lacks}
 
 -- a part is cut at its =
-part_joined : (kind : Kind) (n : ℕ) → ship_part kind n ≡ kind_word kind ++ (61 ∷ decimal n)
+pub part_joined : (kind : Kind) (n : ℕ) → ship_part kind n ≡ kind_word kind ++ (61 ∷ decimal n)
 part_joined kind n = append_assoc (kind_word kind) (61 ∷ []) (decimal n)
 
 pub parts-named : (kind : Kind) (text : List ℕ) → parts 61 (kind_word kind ++ (61 ∷ text)) ≡ kind_word kind ∷ parts 61 text
@@ -26,7 +26,7 @@ parts-number : (n : ℕ) → parts 61 (decimal n) ≡ decimal n ∷ []
 parts-number n = parts-one 61 (decimal n) (lacks-decimal 61 n (λ h. omega (arith, h.1)))
 
 -- one kind that is there
-some_part : (kind : Kind) (n : ℕ) → n ≢ 0 → ship_parts (kind ∷ []) (n ∷ []) ≡ ship_part kind n ∷ []
+pub some_part : (kind : Kind) (n : ℕ) → n ≢ 0 → ship_parts (kind ∷ []) (n ∷ []) ≡ ship_part kind n ∷ []
 some_part kind n some = rw (ne_eqb n 0 some) refl
 
 -- where the parts do not begin with the kind and =, its count is 0

@@ -47,7 +47,7 @@ place_within Join = lit< tt
 place_within Recall = lit< tt
 
 -- what holds of each form in the list holds of every form
-every_form : (P : Form → Type 0) → All P FORMS → (form : Form) → P form
+pub every_form : (P : Form → Type 0) → All P FORMS → (form : Form) → P form
 every_form P all form = subst P (form_at form form) (all (place form) form (place_within form))
 
 -- a search of the whole list finds the form that a word is of

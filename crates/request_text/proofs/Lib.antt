@@ -1,6 +1,9 @@
+pub mod Calls
 pub mod Colons
 pub mod Counting
 pub mod Heads
 pub mod Plain
 pub mod ShipParts
+pub mod Spelled
+pub mod Spellings
 pub mod Tails

@@ -10,6 +10,13 @@ use Rattle.catalog.specs.Kinds.{kind_word}
 use Rattle.catalog.specs.declared.kind.TheConstants.{KINDS}
 use Rattle.catalog.specs.declared.kind.Kind.{Kind}
 use Rattle.catalog.proofs.Places.{every_kind}
+use Rattle.catalog.specs.Missions.{mission_word}
+use Rattle.catalog.specs.declared.mission.Mission.{Mission}
+use Rattle.catalog.specs.declared.mission.Mission.TheVariants.{Transport, Deploy, Harvest, Attack}
+use Rattle.request_text.specs.Forms.{form_word}
+use Rattle.request_text.specs.declared.form.Form.{Form}
+use Rattle.request_text.specs.declared.form.TheConstants.{FORMS}
+use Rattle.request_text.proofs.Heads.{every_form}
 
 abbrev is_letter : ℕ → Bool
 is_letter c = nat_le 97 c && nat_le c 122
@@ -28,3 +35,16 @@ kinds_are_letters = refl
 pub kind_lacks : (c : ℕ) (kind : Kind) → c < 97 → Lacks c (kind_word kind)
 kind_lacks c kind other =
     letters-lack c (kind_word kind) other (every_kind (λ k. list_all is_letter (kind_word k) ≡ true) (AllPass-from_list_all (λ k. list_all is_letter (kind_word k)) KINDS kinds_are_letters) kind)
+
+pub mission_lacks : (c : ℕ) (mission : Mission) → c < 97 → Lacks c (mission_word mission)
+mission_lacks c Transport other = letters-lack c (mission_word Transport) other refl
+mission_lacks c Deploy other = letters-lack c (mission_word Deploy) other refl
+mission_lacks c Harvest other = letters-lack c (mission_word Harvest) other refl
+mission_lacks c Attack other = letters-lack c (mission_word Attack) other refl
+
+forms_are_letters : list_all (λ form. list_all is_letter (form_word form)) FORMS ≡ true
+forms_are_letters = refl
+
+pub form_lacks : (c : ℕ) (form : Form) → c < 97 → Lacks c (form_word form)
+form_lacks c form other =
+    letters-lack c (form_word form) other (every_form (λ f. list_all is_letter (form_word f) ≡ true) (AllPass-from_list_all (λ f. list_all is_letter (form_word f)) FORMS forms_are_letters) form)

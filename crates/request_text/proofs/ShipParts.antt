@@ -17,9 +17,10 @@ use Rattle.catalog.specs.declared.kind.Kind.{Kind}
 use Rattle.catalog.specs.declared.kind.Kind.TheVariants.{MetalMine}
 use Rattle.catalog.specs.declared.ships.Ships.{Ships}
 use Rattle.catalog.specs.declared.ships.TheConstants.{SHIPS, UNITS}
+use Rattle.catalog.proofs.Values.{ships_is}
 use Rattle.catalog.proofs.Words.{word_once}
 use Rattle.request_text.specs.Ships.{Begins, Counted, IsOther, IsUncounted}
-use Rattle.request_text.proofs.Counting.{absent_once, good_number, parts-named}
+use Rattle.request_text.proofs.Counting.{absent_once, good_number, part_joined, parts-named, some_part}
 use Rattle.request_text.proofs.Plain.{kind_lacks}
 
 -- no count is above the most
@@ -116,17 +117,17 @@ pub counts-none : (i : ℕ) (d : Kind) (ns : List ℕ) (old : List (List ℕ)) �
 counts-none i d ns old within long small none is =
     none (get_or ns i 0) (ship_parts (drop (i + 1) SHIPS) (drop (i + 1) ns)) (one_within ns i (omega arith) small) (others_after i d (drop (i + 1) ns) within) (is ∙ parts-drop SHIPS ns i d within (omega arith))
 
--- no part has a comma
-parts_lack : (kinds : List Kind) (counts : List ℕ) → AllByRecursion (Lacks 44) (ship_parts kinds counts)
-parts_lack [] counts = tt
-parts_lack (kind ∷ kinds) [] = tt
-parts_lack (kind ∷ kinds) (count ∷ counts) =
-    elim (eqb count 0) as (λ b. AllByRecursion (Lacks 44) (cond b (ship_parts kinds counts) (ship_part kind count ∷ ship_parts kinds counts)))
-    [ true ↦ parts_lack kinds counts | false ↦ (part_lacks kind count, parts_lack kinds counts) ]
+-- no part has a comma, nor a space
+parts_lack : (c : ℕ) (kinds : List Kind) (counts : List ℕ) → c < 48 → 61 ≢ c → AllByRecursion (Lacks c) (ship_parts kinds counts)
+parts_lack c [] counts low other = tt
+parts_lack c (kind ∷ kinds) [] low other = tt
+parts_lack c (kind ∷ kinds) (count ∷ counts) low other =
+    elim (eqb count 0) as (λ b. AllByRecursion (Lacks c) (cond b (ship_parts kinds counts) (ship_part kind count ∷ ship_parts kinds counts)))
+    [ true ↦ parts_lack c kinds counts low other | false ↦ (part_lacks c kind count low other, parts_lack c kinds counts low other) ]
   where
-    part_lacks : (kind : Kind) (count : ℕ) → Lacks 44 (ship_part kind count)
-    part_lacks kind count =
-        lacks-append 44 (kind_word kind ++ codes "=") (decimal count) (lacks-append 44 (kind_word kind) (codes "=") (kind_lacks 44 kind (omega arith)) (lacks-cons 44 61 [] (λ e. omega arith) (lacks-nil 44))) (lacks-decimal 44 count (λ h. omega (arith, h.0)))
+    part_lacks : (c : ℕ) (kind : Kind) (count : ℕ) → c < 48 → 61 ≢ c → Lacks c (ship_part kind count)
+    part_lacks c kind count low other =
+        lacks-append c (kind_word kind ++ codes "=") (decimal count) (lacks-append c (kind_word kind) (codes "=") (kind_lacks c kind (omega arith)) (lacks-cons c 61 [] other (lacks-nil c))) (lacks-decimal c count (λ h. omega (arith, h.0)))
 
 -- where there is no ship there is no part, and the other way round
 pub no_ships : (kinds : List Kind) (counts : List ℕ) → length kinds ≡ length counts → list_any (λ count. nat_lt 0 count) counts ≡ false → ship_parts kinds counts ≡ []
@@ -146,7 +147,7 @@ some_ships (kind ∷ kinds) (suc count ∷ counts) same some = (ship_part kind (
 pub text_parts : (ships : Ships) → parts 44 (ships_text ships.n) ≡ ship_parts SHIPS ships.n
 text_parts ships =
     let (first, (more, is)) = some_ships SHIPS ships.n (sym ships.kinds) ships.some in
-    ap (λ ps. parts 44 (join_with_byte 44 ps)) is ∙ parts-join_with_byte 44 first more (subst (AllByRecursion (Lacks 44)) is (parts_lack SHIPS ships.n)) ∙ sym is
+    ap (λ ps. parts 44 (join_with_byte 44 ps)) is ∙ parts-join_with_byte 44 first more (subst (AllByRecursion (Lacks 44)) is (parts_lack 44 SHIPS ships.n (omega arith) (λ e. omega arith))) ∙ sym is
 
 -- a text whose parts are those of some counts
 pub parts_text : (word counts : List ℕ) → parts 44 word ≡ ship_parts SHIPS counts → word ≡ ships_text counts
@@ -192,3 +193,44 @@ read_all i word n left over long none is =
 -- a part is left behind the last kind
 pub read_over : (i : ℕ) (ns : List ℕ) (left : List (List ℕ)) → 13 ≤ i → left ≡ ship_parts (drop i SHIPS) (drop i ns) → left ≡ []
 read_over i ns left over is = is ∙ ap (λ kinds. ship_parts kinds (drop i ns)) (drop_all i SHIPS (omega arith))
+
+-- parts that begin with a count of a kind, and then others
+counted_here : (kind : Kind) (count : ℕ) (rest : List (List ℕ)) → count ≤ UNITS → IsOther kind rest → Counted kind (ship_parts (kind ∷ []) (count ∷ []) ++ rest) rest count
+counted_here kind zero rest within other = absent_once kind rest other
+counted_here kind (suc count) rest within other =
+    let part = ship_part kind (suc count) in
+    let is = ap (λ ps. ps ++ rest) (some_part kind (suc count) (λ e. omega arith)) in
+    let cut = ap (parts 61) (part_joined kind (suc count)) ∙ parts-named kind (decimal (suc count)) in
+    good_number kind (ship_parts (kind ∷ []) (suc count ∷ []) ++ rest) part (kind_word kind) (decimal (suc count)) rest (suc count) is cut refl (omega arith) within refl
+
+-- two lists of counts with the same parts are one
+parts_once : (kinds : List Kind) (xs ys : List ℕ) → rises kinds ≡ true → length kinds ≡ length xs → length kinds ≡ length ys → are_within xs ≡ true → are_within ys ≡ true → ship_parts kinds xs ≡ ship_parts kinds ys → xs ≡ ys
+unfolding rises
+parts_once [] [] [] up long_x long_y small_x small_y same = refl
+parts_once [] [] (y ∷ ys) up long_x long_y small_x small_y same = absurd (omega arith)
+parts_once [] (x ∷ xs) ys up long_x long_y small_x small_y same = absurd (omega arith)
+parts_once (kind ∷ kinds) [] ys up long_x long_y small_x small_y same = absurd (omega arith)
+parts_once (kind ∷ kinds) (x ∷ xs) [] up long_x long_y small_x small_y same = absurd (omega arith)
+parts_once (kind ∷ kinds) (x ∷ xs) (y ∷ ys) up long_x long_y small_x small_y same =
+    let later = left_true (after (kind_number kind) kinds) _ up in
+    let rest_up = right_true (after (kind_number kind) kinds) _ up in
+    let counted = counted_here kind x (ship_parts kinds xs) (one_within (x ∷ xs) 0 (omega arith) small_x) (later_other kind kinds xs later) in
+    let begins = sym (parts-first kind kinds x xs) ∙ same ∙ parts-first kind kinds y ys in
+    let found = counted.once y (ship_parts kinds ys) (one_within (y ∷ ys) 0 (omega arith) small_y) (later_other kind kinds ys later) begins in
+    let rest = parts_once kinds xs ys rest_up (omega arith) (omega arith) (right_true (nat_le x UNITS) _ small_x) (right_true (nat_le y UNITS) _ small_y) (sym found.1) in
+    λ i. sym found.0 i ∷ rest i
+
+-- ships with the same text are one
+pub ships_once : (a b : Ships) → ships_text a.n ≡ ships_text b.n → a ≡ b
+ships_once a b same =
+    ships_is a b (parts_once SHIPS a.n b.n ships_rise (sym a.kinds) (sym b.kinds) a.within b.within (sym (text_parts a) ∙ ap (parts 44) same ∙ text_parts b))
+
+-- no space stands in a text of ships
+join-lacks : (c sign : ℕ) (ps : List (List ℕ)) → sign ≢ c → AllByRecursion (Lacks c) ps → Lacks c (join_with_byte sign ps)
+join-lacks c sign [] other free = lacks-nil c
+join-lacks c sign (first ∷ []) other free = free.0
+join-lacks c sign (first ∷ next ∷ more) other free =
+    lacks-append c first (sign ∷ join_with_byte sign (next ∷ more)) free.0 (lacks-cons c sign (join_with_byte sign (next ∷ more)) other (join-lacks c sign (next ∷ more) other free.1))
+
+pub ships_lack_space : (counts : List ℕ) → Lacks 32 (ships_text counts)
+ships_lack_space counts = join-lacks 32 44 (ship_parts SHIPS counts) (λ e. omega arith) (parts_lack 32 SHIPS counts (omega arith) (λ e. omega arith))

@@ -21,7 +21,7 @@ ghost use Rattle.catalog.specs.declared.amounts.Amounts.{Amounts};
 ghost use Rattle.request_text.specs.Flights.{flight_words};
 
 use crate::coordinates::{coord, system};
-use crate::ships::ships;
+use crate::ship_counts::ships;
 use base_ids::{Coord, FleetNumber, System};
 use base_text::{Parts, number, positive_number};
 use catalog::{

@@ -44,6 +44,26 @@ pub fn planet(words: &mut Parts) -> Option<Request>
     Some(Request::Planet(at))
 }
 
+/// Reads that no word follows `account`. `None` exactly where one does.
+pub fn account(words: &mut Parts) -> Option<Request>
+    ensures { MatchOption result (words.old ≡ [] → ⊥) (IsSpelled Form.Account words.old) }
+{
+    if !words.is_at_end() {
+        return None;
+    }
+    Some(Request::Account)
+}
+
+/// Reads that no word follows `fleets`. `None` exactly where one does.
+pub fn fleets(words: &mut Parts) -> Option<Request>
+    ensures { MatchOption result (words.old ≡ [] → ⊥) (IsSpelled Form.Fleets words.old) }
+{
+    if !words.is_at_end() {
+        return None;
+    }
+    Some(Request::Fleets)
+}
+
 /// Reads the words `G:S` of `system`. `None` exactly where they are not such words.
 pub fn system(words: &mut Parts) -> Option<Request>
     ensures { MatchOption result

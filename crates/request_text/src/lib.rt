@@ -1,13 +1,20 @@
 //! Requests: what a player may ask of a universe, and how it is spelled.
 #![tactic(auto)]
 
-pub mod arguments;
+mod arguments;
+mod call;
 mod coordinates;
+mod entry;
 mod form;
-pub mod forms;
+mod forms;
+mod laws;
 mod request;
-pub mod ships;
+mod ship_counts;
 
+pub use call::Call;
 pub use coordinates::{coord, player, system};
+pub use entry::Entry;
 pub use form::Form;
+pub use laws::spell_once;
 pub use request::Request;
+pub use ship_counts::ships;

@@ -1,8 +1,15 @@
+ghost use Rattle.std.specs.Prelude.{◌≡◌, MatchOption};
+ghost use Rattle.request_text.specs.Words.{IsSpelled, argument_words, form_of, request_words};
+ghost use Rattle.request_text.specs.declared.request.Request.{Request};
+
 use crate::form::Form;
+use crate::forms;
 use base_ids::{Coord, FleetNumber, System};
+use base_text::{Bytes, Parts};
 use catalog::{
     Amounts, Building, Count, Mission, Ships, SpeedSetting, Technology, Tenths, Unit, Work,
 };
+use std::alloc::{AllocError, Global};
 use std::fmt;
 
 /// What a player asks of the universe.
@@ -33,8 +40,29 @@ pub enum Request {
 }
 
 impl Request {
-    ghost use Rattle.std.specs.Prelude.{◌≡◌};
-    ghost use Rattle.request_text.specs.Words.{form_of};
+    ghost use Rattle.std.specs.Prelude.{◌≡◌, ◌++◌, MatchOption, OnErr, OnOk};
+    ghost use Rattle.base_text.specs.Parts.{words};
+    ghost use Rattle.request_text.specs.Words.{form_of, request_text, request_words};
+    ghost use Rattle.request_text.specs.declared.request.Request.{Request};
+
+    /// The request that a text spells. `None` exactly where it spells none. It takes no memory, and reads each byte once.
+    pub fn read(line: &[u8]) -> Option<Request>
+        ensures { MatchOption result
+            ((req : Request) → words line.now ≡ request_words req → ⊥)
+            (λ req. words line.now ≡ request_words req) }
+    {
+        let mut words = Parts::new(line, b' ');
+        next_request(&mut words)
+    }
+
+    /// Appends the text of the request, without a line feed. It fails only where memory runs out, and then appends nothing.
+    pub fn write(&self, alloc: Global, out: &mut Bytes) -> Result<(), AllocError>
+        ensures ok { OnOk result (out.new ≡ out.old ++ request_text self.now) }
+        ensures err { OnErr result (out.new ≡ out.old) }
+    {
+        let text = format!(in alloc; "{self}")?;
+        out.push(text.as_bytes())
+    }
 
     /// The form of the request.
     pub fn form(&self) -> Form
@@ -80,5 +108,46 @@ impl fmt::Display for Request {
             }
             Request::Recall(fleet) => write!(f, "recall {fleet}"),
         }
+    }
+}
+
+/// Takes all words that are left as those of a request. `None` exactly where they spell none.
+#[tactic(auto, using(crate::proofs::Spelled::heading))]
+pub fn next_request(words: &mut Parts) -> Option<Request>
+    ensures { MatchOption result
+        ((req : Request) → words.old ≡ request_words req → ⊥)
+        (λ req. words.old ≡ request_words req) }
+{
+    let Some(word) = words.next() else {
+        return None;
+    };
+    let Some(form) = Form::read(word) else {
+        return None;
+    };
+    let Some(req) = arguments_of(form, words) else {
+        return None;
+    };
+    Some(req)
+}
+
+/// Takes all words that are left as those of a request of a form, after its first.
+#[tactic(auto, using(crate::proofs::Spelled::forms))]
+fn arguments_of(form: Form, words: &mut Parts) -> Option<Request>
+    ensures { MatchOption result
+        ((req : Request) → form_of req ≡ form → words.old ≡ argument_words req → ⊥)
+        (IsSpelled form words.old) }
+{
+    match form {
+        Form::Planet => forms::planet(words),
+        Form::Account => forms::account(words),
+        Form::Fleets => forms::fleets(words),
+        Form::System => forms::system(words),
+        Form::Build => forms::build(words),
+        Form::Research => forms::research(words),
+        Form::Yard => forms::yard(words),
+        Form::Set => forms::set(words),
+        Form::Send => forms::send(words),
+        Form::Join => forms::join(words),
+        Form::Recall => forms::recall(words),
     }
 }

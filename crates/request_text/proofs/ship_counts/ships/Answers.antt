@@ -4,7 +4,7 @@ use Rattle.std.proofs.Math.ListN.{length-set}
 use Rattle.base_text.specs.Parts.{parts}
 use Rattle.catalog.specs.declared.kind.Kind.TheVariants.{MetalMine}
 use Rattle.request_text.proofs.ShipParts.{any_ship, are_within, counts-none, once_more, parts_text, read_all, read_more, read_over, text_parts, within_more}
-use Rattle.request_text.proofs.ships.ships.Goals as goal
+use Rattle.request_text.proofs.ship_counts.ships.Goals as goal
 
 pub returns-in_default : goal.returns-in_default
 returns-in_default c = λ ships spells.

@@ -4,7 +4,7 @@ use Rattle.base_text.specs.Parts.{parts}
 use Rattle.catalog.specs.Texts.{ship_parts}
 use Rattle.catalog.specs.declared.ships.TheConstants.{SHIPS}
 use Rattle.request_text.proofs.ShipParts.{are_within}
-use Rattle.request_text.proofs.ships.ships.Given as goal
+use Rattle.request_text.proofs.ship_counts.ships.Given as goal
 
 abbrev pub invariant-kinds : goal.invariant-kinds
 invariant-kinds l = record {

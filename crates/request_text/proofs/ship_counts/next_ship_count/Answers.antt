@@ -1,7 +1,7 @@
 use Rattle.std.proofs.Common.{◌≡◌, ℕ, sym, ◌∙◌, rules}
 use Rattle.catalog.specs.Kinds.{kind_word}
 use Rattle.request_text.proofs.Counting.{after_part, bad_number, good_number, no_sign, other_word}
-use Rattle.request_text.proofs.ships.next_ship_count.Goals as goal
+use Rattle.request_text.proofs.ship_counts.next_ship_count.Goals as goal
 
 pub returns-in_default-cut : goal.returns-in_default-cut
 returns-in_default-cut c = no_sign c.args.kind c.args.parts.now c.in-Some.part.now c.in-Some.ensures.0 c.in-Some.ensures.1 c.in_default-cut.ensures.split
