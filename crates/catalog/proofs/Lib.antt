@@ -1,1 +1,2 @@
+pub mod NeedOrder
 pub mod Places

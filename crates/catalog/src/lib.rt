@@ -10,6 +10,7 @@ mod kind;
 mod need;
 mod rapid_fire;
 mod storage;
+mod table_laws;
 
 pub use amounts::{Amounts, CAP};
 pub use engine::{Drive, Engine};
@@ -18,3 +19,7 @@ pub use kind::{KINDS, Kind};
 pub use need::{GRAVITON_ENERGY, Need};
 pub use rapid_fire::rapid;
 pub use storage::storage_limit;
+pub use table_laws::{
+    costs_are_capped, levels_are_in_range, needs_can_be_met, ships_fire_rapidly, ships_fly,
+    stores_grow, units_fight,
+};
