@@ -59,6 +59,8 @@ pub after_needs : (kind : Kind) → comes_after kind ≡ true
 after_needs = every_kind (λ kind. comes_after kind ≡ true) (AllPass-from_list_all comes_after KINDS refl)
 
 pub in_order : (place : Kind → ℕ) × ((kind : Kind) → All (λ need. place need.kind < place kind) (needs_of kind))
-in_order =
-    (place, λ kind k other within.
-        ltb-true _ _ (AllPass-from_list_all (λ need. nat_lt (place need.kind) (place kind)) (needs_of kind) (after_needs kind) k other within))
+in_order = (
+  place,
+  λ kind k other within.
+      ltb-true _ _ (AllPass-from_list_all (λ need. nat_lt (place need.kind) (place kind)) (needs_of kind) (after_needs kind) k other within),
+)

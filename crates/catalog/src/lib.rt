@@ -23,3 +23,6 @@ pub use table_laws::{
     costs_are_capped, levels_are_in_range, needs_can_be_met, ships_fire_rapidly, ships_fly,
     stores_grow, units_fight,
 };
+
+#[cfg(test)]
+mod table_tests;
