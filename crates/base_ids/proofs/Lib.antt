@@ -1,1 +1,2 @@
-pub mod Coords
+pub mod Names
+pub mod Ordering

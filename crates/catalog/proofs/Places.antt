@@ -1,5 +1,5 @@
 -- The place of each kind in the list of all kinds.
-use Rattle.std.proofs.Common.{◌≡◌, ℕ, ◌<◌, List, refl, get_or, lit<, length, subst}
+use Rattle.std.proofs.Common.{◌≡◌, ℕ, ◌<◌, List, refl, get_or, lit<, subst}
 use Rattle.std.specs.Prelude.{Option, Some, None, MatchOption}
 use Rattle.catalog.specs.Kinds.{kind_word}
 use Rattle.std.specs.List.{All}

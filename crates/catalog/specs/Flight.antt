@@ -1,16 +1,10 @@
 -- What each ship carries and what drives it. Rule: docs/RULES.md, "Ships".
-use Rattle.std.specs.Prelude.{ℕ, ◌≤◌, Option, Some, None, nat_le, if◌then◌else◌}
-use Rattle.catalog.specs.Kinds.{kind_number}
+use Rattle.std.specs.Prelude.{ℕ, Option, Some, None, nat_le, if◌then◌else◌}
 use Rattle.catalog.specs.declared.engine.Drive.TheVariants.{Combustion, Impulse, Hyperspace}
 use Rattle.catalog.specs.declared.engine.Drive.{Drive}
 use Rattle.catalog.specs.declared.engine.Engine.{Engine}
 use Rattle.catalog.specs.declared.kind.Kind.{Kind}
 use Rattle.catalog.specs.declared.kind.Kind.TheVariants.{SmallCargo, LargeCargo, LightFighter, HeavyFighter, Cruiser, Battleship, Battlecruiser, Bomber, Destroyer, Deathstar, Recycler, ColonyShip, Probe, Satellite}
-
--- a ship that flies: all but the satellite
-pub record IsFlying (kind : Kind) : Type 0 where
-  pub from : 41 ≤ kind_number kind
-  pub to : kind_number kind ≤ 53
 
 -- the units of resources that fit into one ship
 abbrev pub cargo_of : Kind → ℕ

@@ -1,8 +1,11 @@
-pub mod Combat
-pub mod Costs
-pub mod Flight
 pub mod Kinds
+pub mod Classes
+pub mod Missions
+pub mod Texts
+pub mod Costs
 pub mod Levels
+pub mod Combat
+pub mod Flight
 pub mod Needs
 pub mod RapidFire
 pub mod Storage

@@ -1,10 +1,12 @@
 ghost use Rattle.std.specs.Prelude.{◌≤◌};
 ghost use Rattle.catalog.specs.declared.amounts.TheConstants.{CAP};
 
-/// The most units of a resource that are held anywhere.
+use std::fmt;
+
+/// The most units of a resource that a stock, a cargo or a cost can have.
 pub const CAP: u64 = 4_000_000_000_000;
 
-/// Whole units of metal, crystal and deuterium, each at most `CAP`.
+/// Units of metal, crystal and deuterium, each at most `CAP`. The text is `M C D`.
 #[derive(Clone, Copy, Debug, PartialEq, Eq)]
 pub struct Amounts {
     pub m: u64,
@@ -13,4 +15,18 @@ pub struct Amounts {
     pub ghost metal: { m ≤ CAP },
     pub ghost crystal: { c ≤ CAP },
     pub ghost deuterium: { d ≤ CAP },
+}
+
+impl fmt::Display for Amounts {
+    ghost use Rattle.std.specs.Prelude.{Some};
+    ghost use Rattle.catalog.specs.Texts.{amounts_text};
+
+    ghost output = { λ amounts. Some (amounts_text amounts) };
+
+    fn fmt<W: fmt::Write>(&self, f: &mut fmt::Formatter<W>) -> fmt::Result {
+        let metal = self.m;
+        let crystal = self.c;
+        let deuterium = self.d;
+        write!(f, "{metal} {crystal} {deuterium}")
+    }
 }

@@ -1,6 +1,8 @@
 ghost use Rattle.std.specs.Prelude.{◌≡◌, MatchOption, All};
 ghost use Rattle.catalog.specs.Kinds.{kind_word};
 
+use std::fmt;
+
 /// A kind of building, technology, ship or defence. Its number orders the kinds.
 #[derive(Clone, Copy, Debug, PartialEq, Eq, PartialOrd, Ord)]
 pub enum Kind {
@@ -104,8 +106,20 @@ pub const KINDS: [Kind; 47] = [
     Kind::LargeDome,
 ];
 
+impl fmt::Display for Kind {
+    ghost use Rattle.std.specs.Prelude.{Some};
+
+    ghost output = { λ kind. Some (kind_word kind) };
+
+    fn fmt<W: fmt::Write>(&self, f: &mut fmt::Formatter<W>) -> fmt::Result {
+        let word = self.word();
+        write!(f, "{word}")
+    }
+}
+
 impl Kind {
     ghost use Rattle.std.specs.Prelude.{◌≡◌, MatchOption};
+    ghost use Rattle.catalog.specs.Classes.{is_building, is_technology, is_ship, is_unit, is_work};
     ghost use Rattle.catalog.specs.Kinds.{kind_number, kind_word};
     ghost use Rattle.catalog.specs.declared.kind.Kind.{Kind};
 
@@ -118,58 +132,93 @@ impl Kind {
     }
 
     /// The word that names the kind in texts.
-    pub fn word(self) -> &'static [u8]
+    pub fn word(self) -> &'static str
         ensures { result.now ≡ kind_word self }
     {
         match self {
-            Kind::MetalMine => b"metalmine",
-            Kind::CrystalMine => b"crystalmine",
-            Kind::DeuteriumSynth => b"deuteriumsynth",
-            Kind::SolarPlant => b"solarplant",
-            Kind::MetalStore => b"metalstore",
-            Kind::CrystalStore => b"crystalstore",
-            Kind::DeuteriumTank => b"deuteriumtank",
-            Kind::Robotics => b"robotics",
-            Kind::Shipyard => b"shipyard",
-            Kind::Lab => b"lab",
-            Kind::Nanite => b"nanite",
-            Kind::Energy => b"energy",
-            Kind::Laser => b"laser",
-            Kind::Ion => b"ion",
-            Kind::Hyperspace => b"hyperspace",
-            Kind::Plasma => b"plasma",
-            Kind::Combustion => b"combustion",
-            Kind::Impulse => b"impulse",
-            Kind::Hyperdrive => b"hyperdrive",
-            Kind::Espionage => b"espionage",
-            Kind::Computer => b"computer",
-            Kind::Weapons => b"weapons",
-            Kind::Shielding => b"shielding",
-            Kind::Armour => b"armour",
-            Kind::Graviton => b"graviton",
-            Kind::SmallCargo => b"smallcargo",
-            Kind::LargeCargo => b"largecargo",
-            Kind::LightFighter => b"lightfighter",
-            Kind::HeavyFighter => b"heavyfighter",
-            Kind::Cruiser => b"cruiser",
-            Kind::Battleship => b"battleship",
-            Kind::Battlecruiser => b"battlecruiser",
-            Kind::Bomber => b"bomber",
-            Kind::Destroyer => b"destroyer",
-            Kind::Deathstar => b"deathstar",
-            Kind::Recycler => b"recycler",
-            Kind::ColonyShip => b"colonyship",
-            Kind::Probe => b"probe",
-            Kind::Satellite => b"satellite",
-            Kind::Launcher => b"launcher",
-            Kind::LightLaser => b"lightlaser",
-            Kind::HeavyLaser => b"heavylaser",
-            Kind::Gauss => b"gauss",
-            Kind::IonCannon => b"ioncannon",
-            Kind::PlasmaTurret => b"plasmaturret",
-            Kind::SmallDome => b"smalldome",
-            Kind::LargeDome => b"largedome",
+            Kind::MetalMine => "metalmine",
+            Kind::CrystalMine => "crystalmine",
+            Kind::DeuteriumSynth => "deuteriumsynth",
+            Kind::SolarPlant => "solarplant",
+            Kind::MetalStore => "metalstore",
+            Kind::CrystalStore => "crystalstore",
+            Kind::DeuteriumTank => "deuteriumtank",
+            Kind::Robotics => "robotics",
+            Kind::Shipyard => "shipyard",
+            Kind::Lab => "lab",
+            Kind::Nanite => "nanite",
+            Kind::Energy => "energy",
+            Kind::Laser => "laser",
+            Kind::Ion => "ion",
+            Kind::Hyperspace => "hyperspace",
+            Kind::Plasma => "plasma",
+            Kind::Combustion => "combustion",
+            Kind::Impulse => "impulse",
+            Kind::Hyperdrive => "hyperdrive",
+            Kind::Espionage => "espionage",
+            Kind::Computer => "computer",
+            Kind::Weapons => "weapons",
+            Kind::Shielding => "shielding",
+            Kind::Armour => "armour",
+            Kind::Graviton => "graviton",
+            Kind::SmallCargo => "smallcargo",
+            Kind::LargeCargo => "largecargo",
+            Kind::LightFighter => "lightfighter",
+            Kind::HeavyFighter => "heavyfighter",
+            Kind::Cruiser => "cruiser",
+            Kind::Battleship => "battleship",
+            Kind::Battlecruiser => "battlecruiser",
+            Kind::Bomber => "bomber",
+            Kind::Destroyer => "destroyer",
+            Kind::Deathstar => "deathstar",
+            Kind::Recycler => "recycler",
+            Kind::ColonyShip => "colonyship",
+            Kind::Probe => "probe",
+            Kind::Satellite => "satellite",
+            Kind::Launcher => "launcher",
+            Kind::LightLaser => "lightlaser",
+            Kind::HeavyLaser => "heavylaser",
+            Kind::Gauss => "gauss",
+            Kind::IonCannon => "ioncannon",
+            Kind::PlasmaTurret => "plasmaturret",
+            Kind::SmallDome => "smalldome",
+            Kind::LargeDome => "largedome",
         }
+    }
+
+    /// Whether it is a building.
+    pub fn is_building(self) -> bool
+        ensures { result ≡ is_building self }
+    {
+        self.number() <= 11
+    }
+
+    /// Whether it is a technology.
+    pub fn is_technology(self) -> bool
+        ensures { result ≡ is_technology self }
+    {
+        21 <= self.number() && self.number() <= 34
+    }
+
+    /// Whether it is a ship that flies.
+    pub fn is_ship(self) -> bool
+        ensures { result ≡ is_ship self }
+    {
+        41 <= self.number() && self.number() <= 53
+    }
+
+    /// Whether a yard builds it: a ship, the satellite or a defence.
+    pub fn is_unit(self) -> bool
+        ensures { result ≡ is_unit self }
+    {
+        41 <= self.number()
+    }
+
+    /// Whether its work can be set: a mine, the solar plant or the satellite.
+    pub fn is_work(self) -> bool
+        ensures { result ≡ is_work self }
+    {
+        self.number() <= 4 || self.number() == 54
     }
 
     /// The kind that a word names. `None` exactly where it names none.
@@ -188,7 +237,7 @@ fn named(kinds: &[Kind], word: &[u8]) -> Option<Kind>
         (λ kind. word.now ≡ kind_word kind) }
 {
     'kinds: for kind in kinds {
-        if kind.word() == word {
+        if kind.word().as_bytes() == word {
             return Some(*kind);
         }
     }

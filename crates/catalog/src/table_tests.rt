@@ -8,304 +8,295 @@ const I: Drive = Drive::Impulse;
 const H: Drive = Drive::Hyperspace;
 
 /// Number, word, cost of level 1, growth, cap.
-const BUILDINGS: [(u8, &[u8], [u64; 3], [u64; 2], u8); 11] = [
-    (1, b"metalmine", [60, 15, 0], [3, 2], 30),
-    (2, b"crystalmine", [48, 24, 0], [8, 5], 30),
-    (3, b"deuteriumsynth", [225, 75, 0], [3, 2], 30),
-    (4, b"solarplant", [75, 30, 0], [3, 2], 30),
-    (5, b"metalstore", [1000, 0, 0], [2, 1], 16),
-    (6, b"crystalstore", [1000, 500, 0], [2, 1], 16),
-    (7, b"deuteriumtank", [1000, 1000, 0], [2, 1], 16),
-    (8, b"robotics", [400, 120, 200], [2, 1], 12),
-    (9, b"shipyard", [400, 200, 100], [2, 1], 14),
-    (10, b"lab", [200, 400, 200], [2, 1], 14),
-    (11, b"nanite", [1_000_000, 500_000, 100_000], [2, 1], 8),
+const BUILDINGS: [(u8, &str, [u64; 3], [u64; 2], u8); 11] = [
+    (1, "metalmine", [60, 15, 0], [3, 2], 30),
+    (2, "crystalmine", [48, 24, 0], [8, 5], 30),
+    (3, "deuteriumsynth", [225, 75, 0], [3, 2], 30),
+    (4, "solarplant", [75, 30, 0], [3, 2], 30),
+    (5, "metalstore", [1000, 0, 0], [2, 1], 16),
+    (6, "crystalstore", [1000, 500, 0], [2, 1], 16),
+    (7, "deuteriumtank", [1000, 1000, 0], [2, 1], 16),
+    (8, "robotics", [400, 120, 200], [2, 1], 12),
+    (9, "shipyard", [400, 200, 100], [2, 1], 14),
+    (10, "la", [200, 400, 200], [2, 1], 14),
+    (11, "nanite", [1_000_000, 500_000, 100_000], [2, 1], 8),
 ];
 
 /// Number, word, cost of level 1.
-const TECHNOLOGIES: [(u8, &[u8], [u64; 3]); 14] = [
-    (21, b"energy", [0, 800, 400]),
-    (22, b"laser", [200, 100, 0]),
-    (23, b"ion", [1000, 300, 100]),
-    (24, b"hyperspace", [0, 4000, 2000]),
-    (25, b"plasma", [2000, 4000, 1000]),
-    (26, b"combustion", [400, 0, 600]),
-    (27, b"impulse", [2000, 4000, 600]),
-    (28, b"hyperdrive", [10_000, 20_000, 6000]),
-    (29, b"espionage", [200, 1000, 200]),
-    (30, b"computer", [0, 400, 600]),
-    (31, b"weapons", [800, 200, 0]),
-    (32, b"shielding", [200, 600, 0]),
-    (33, b"armour", [1000, 0, 0]),
-    (34, b"graviton", [0, 0, 0]),
+const TECHNOLOGIES: [(u8, &str, [u64; 3]); 14] = [
+    (21, "energy", [0, 800, 400]),
+    (22, "laser", [200, 100, 0]),
+    (23, "ion", [1000, 300, 100]),
+    (24, "hyperspace", [0, 4000, 2000]),
+    (25, "plasma", [2000, 4000, 1000]),
+    (26, "combustion", [400, 0, 600]),
+    (27, "impulse", [2000, 4000, 600]),
+    (28, "hyperdrive", [10_000, 20_000, 6000]),
+    (29, "espionage", [200, 1000, 200]),
+    (30, "computer", [0, 400, 600]),
+    (31, "weapons", [800, 200, 0]),
+    (32, "shielding", [200, 600, 0]),
+    (33, "armour", [1000, 0, 0]),
+    (34, "graviton", [0, 0, 0]),
 ];
 
 /// Number, word, cost, attack, shield, cargo, and the engine: speed, drive, fuel.
-const SHIPS: [(u8, &[u8], [u64; 3], [u32; 3], Option<(u32, Drive, u32)>); 14] = [
+const SHIPS: [(u8, &str, [u64; 3], [u32; 3], Option<(u32, Drive, u32)>); 14] = [
     (
         41,
-        b"smallcargo",
+        "smallcargo",
         [2000, 2000, 0],
         [5, 10, 5000],
         Some((5000, C, 10)),
     ),
     (
         42,
-        b"largecargo",
+        "largecargo",
         [6000, 6000, 0],
         [5, 25, 25_000],
         Some((7500, C, 50)),
     ),
     (
         43,
-        b"lightfighter",
+        "lightfighter",
         [3000, 1000, 0],
         [50, 10, 50],
         Some((12_500, C, 20)),
     ),
     (
         44,
-        b"heavyfighter",
+        "heavyfighter",
         [6000, 4000, 0],
         [150, 25, 100],
         Some((10_000, I, 75)),
     ),
     (
         45,
-        b"cruiser",
+        "cruiser",
         [20_000, 7000, 2000],
         [400, 50, 800],
         Some((15_000, I, 300)),
     ),
     (
         46,
-        b"battleship",
+        "battleship",
         [45_000, 15_000, 0],
         [1000, 200, 1500],
         Some((10_000, H, 500)),
     ),
     (
         47,
-        b"battlecruiser",
+        "battlecruiser",
         [30_000, 40_000, 15_000],
         [700, 400, 750],
         Some((10_000, H, 250)),
     ),
     (
         48,
-        b"bomber",
+        "bomber",
         [50_000, 25_000, 15_000],
         [1000, 500, 500],
         Some((4000, I, 1000)),
     ),
     (
         49,
-        b"destroyer",
+        "destroyer",
         [60_000, 50_000, 15_000],
         [2000, 500, 2000],
         Some((5000, H, 1000)),
     ),
     (
         50,
-        b"deathstar",
+        "deathstar",
         [5_000_000, 4_000_000, 1_000_000],
         [200_000, 50_000, 1_000_000],
         Some((100, H, 1)),
     ),
     (
         51,
-        b"recycler",
+        "recycler",
         [10_000, 6000, 2000],
         [1, 10, 20_000],
         Some((2000, C, 300)),
     ),
     (
         52,
-        b"colonyship",
+        "colonyship",
         [10_000, 20_000, 10_000],
         [50, 100, 7500],
         Some((2500, I, 1000)),
     ),
     (
         53,
-        b"probe",
+        "probe",
         [0, 1000, 0],
         [0, 0, 5],
         Some((100_000_000, C, 1)),
     ),
-    (54, b"satellite", [0, 2000, 500], [1, 1, 0], None),
+    (54, "satellite", [0, 2000, 500], [1, 1, 0], None),
 ];
 
 /// Number, word, cost, attack, shield.
-const DEFENCES: [(u8, &[u8], [u64; 3], [u32; 2]); 8] = [
-    (61, b"launcher", [2000, 0, 0], [80, 20]),
-    (62, b"lightlaser", [1500, 500, 0], [100, 25]),
-    (63, b"heavylaser", [6000, 2000, 0], [250, 100]),
-    (64, b"gauss", [20_000, 15_000, 2000], [1100, 200]),
-    (65, b"ioncannon", [2000, 6000, 0], [150, 500]),
-    (66, b"plasmaturret", [50_000, 50_000, 30_000], [3000, 300]),
-    (67, b"smalldome", [10_000, 10_000, 0], [1, 2000]),
-    (68, b"largedome", [50_000, 50_000, 0], [1, 10_000]),
+const DEFENCES: [(u8, &str, [u64; 3], [u32; 2]); 8] = [
+    (61, "launcher", [2000, 0, 0], [80, 20]),
+    (62, "lightlaser", [1500, 500, 0], [100, 25]),
+    (63, "heavylaser", [6000, 2000, 0], [250, 100]),
+    (64, "gauss", [20_000, 15_000, 2000], [1100, 200]),
+    (65, "ioncannon", [2000, 6000, 0], [150, 500]),
+    (66, "plasmaturret", [50_000, 50_000, 30_000], [3000, 300]),
+    (67, "smalldome", [10_000, 10_000, 0], [1, 2000]),
+    (68, "largedome", [50_000, 50_000, 0], [1, 10_000]),
 ];
 
 /// Kind and what it needs; all other kinds need nothing.
-const NEEDS: [(&[u8], &[(&[u8], u8)]); 38] = [
-    (b"shipyard", &[(b"robotics", 2)]),
-    (b"nanite", &[(b"robotics", 10), (b"computer", 10)]),
-    (b"energy", &[(b"lab", 1)]),
-    (b"laser", &[(b"lab", 1), (b"energy", 2)]),
-    (b"ion", &[(b"lab", 4), (b"energy", 4), (b"laser", 5)]),
+const NEEDS: [(&str, &[(&str, u8)]); 38] = [
+    ("shipyard", &[("robotics", 2)]),
+    ("nanite", &[("robotics", 10), ("computer", 10)]),
+    ("energy", &[("la", 1)]),
+    ("laser", &[("la", 1), ("energy", 2)]),
+    ("ion", &[("la", 4), ("energy", 4), ("laser", 5)]),
+    ("hyperspace", &[("la", 7), ("energy", 5), ("shielding", 5)]),
     (
-        b"hyperspace",
-        &[(b"lab", 7), (b"energy", 5), (b"shielding", 5)],
+        "plasma",
+        &[("la", 4), ("energy", 8), ("laser", 10), ("ion", 5)],
     ),
+    ("combustion", &[("la", 1), ("energy", 1)]),
+    ("impulse", &[("la", 2), ("energy", 1)]),
+    ("hyperdrive", &[("la", 7), ("hyperspace", 3)]),
+    ("espionage", &[("la", 3)]),
+    ("computer", &[("la", 1)]),
+    ("weapons", &[("la", 4)]),
+    ("shielding", &[("la", 6), ("energy", 3)]),
+    ("armour", &[("la", 2)]),
+    ("graviton", &[("la", 12)]),
+    ("smallcargo", &[("shipyard", 2), ("combustion", 2)]),
+    ("largecargo", &[("shipyard", 4), ("combustion", 6)]),
+    ("lightfighter", &[("shipyard", 1), ("combustion", 1)]),
     (
-        b"plasma",
-        &[(b"lab", 4), (b"energy", 8), (b"laser", 10), (b"ion", 5)],
+        "heavyfighter",
+        &[("shipyard", 3), ("armour", 2), ("impulse", 2)],
     ),
-    (b"combustion", &[(b"lab", 1), (b"energy", 1)]),
-    (b"impulse", &[(b"lab", 2), (b"energy", 1)]),
-    (b"hyperdrive", &[(b"lab", 7), (b"hyperspace", 3)]),
-    (b"espionage", &[(b"lab", 3)]),
-    (b"computer", &[(b"lab", 1)]),
-    (b"weapons", &[(b"lab", 4)]),
-    (b"shielding", &[(b"lab", 6), (b"energy", 3)]),
-    (b"armour", &[(b"lab", 2)]),
-    (b"graviton", &[(b"lab", 12)]),
-    (b"smallcargo", &[(b"shipyard", 2), (b"combustion", 2)]),
-    (b"largecargo", &[(b"shipyard", 4), (b"combustion", 6)]),
-    (b"lightfighter", &[(b"shipyard", 1), (b"combustion", 1)]),
+    ("cruiser", &[("shipyard", 5), ("impulse", 4), ("ion", 2)]),
+    ("battleship", &[("shipyard", 7), ("hyperdrive", 4)]),
     (
-        b"heavyfighter",
-        &[(b"shipyard", 3), (b"armour", 2), (b"impulse", 2)],
-    ),
-    (
-        b"cruiser",
-        &[(b"shipyard", 5), (b"impulse", 4), (b"ion", 2)],
-    ),
-    (b"battleship", &[(b"shipyard", 7), (b"hyperdrive", 4)]),
-    (
-        b"battlecruiser",
+        "battlecruiser",
         &[
-            (b"shipyard", 8),
-            (b"hyperspace", 5),
-            (b"hyperdrive", 5),
-            (b"laser", 12),
+            ("shipyard", 8),
+            ("hyperspace", 5),
+            ("hyperdrive", 5),
+            ("laser", 12),
+        ],
+    ),
+    ("bomber", &[("shipyard", 8), ("impulse", 6), ("plasma", 5)]),
+    (
+        "destroyer",
+        &[("shipyard", 9), ("hyperspace", 5), ("hyperdrive", 6)],
+    ),
+    (
+        "deathstar",
+        &[
+            ("shipyard", 12),
+            ("hyperspace", 6),
+            ("hyperdrive", 7),
+            ("graviton", 1),
         ],
     ),
     (
-        b"bomber",
-        &[(b"shipyard", 8), (b"impulse", 6), (b"plasma", 5)],
+        "recycler",
+        &[("shipyard", 4), ("combustion", 6), ("shielding", 2)],
+    ),
+    ("colonyship", &[("shipyard", 4), ("impulse", 3)]),
+    (
+        "probe",
+        &[("shipyard", 3), ("combustion", 3), ("espionage", 2)],
+    ),
+    ("satellite", &[("shipyard", 1)]),
+    ("launcher", &[("shipyard", 1)]),
+    (
+        "lightlaser",
+        &[("shipyard", 2), ("energy", 1), ("laser", 3)],
     ),
     (
-        b"destroyer",
-        &[(b"shipyard", 9), (b"hyperspace", 5), (b"hyperdrive", 6)],
+        "heavylaser",
+        &[("shipyard", 4), ("energy", 3), ("laser", 6)],
     ),
     (
-        b"deathstar",
+        "gauss",
         &[
-            (b"shipyard", 12),
-            (b"hyperspace", 6),
-            (b"hyperdrive", 7),
-            (b"graviton", 1),
+            ("shipyard", 6),
+            ("energy", 6),
+            ("weapons", 3),
+            ("shielding", 1),
         ],
     ),
-    (
-        b"recycler",
-        &[(b"shipyard", 4), (b"combustion", 6), (b"shielding", 2)],
-    ),
-    (b"colonyship", &[(b"shipyard", 4), (b"impulse", 3)]),
-    (
-        b"probe",
-        &[(b"shipyard", 3), (b"combustion", 3), (b"espionage", 2)],
-    ),
-    (b"satellite", &[(b"shipyard", 1)]),
-    (b"launcher", &[(b"shipyard", 1)]),
-    (
-        b"lightlaser",
-        &[(b"shipyard", 2), (b"energy", 1), (b"laser", 3)],
-    ),
-    (
-        b"heavylaser",
-        &[(b"shipyard", 4), (b"energy", 3), (b"laser", 6)],
-    ),
-    (
-        b"gauss",
-        &[
-            (b"shipyard", 6),
-            (b"energy", 6),
-            (b"weapons", 3),
-            (b"shielding", 1),
-        ],
-    ),
-    (b"ioncannon", &[(b"shipyard", 4), (b"ion", 4)]),
-    (b"plasmaturret", &[(b"shipyard", 8), (b"plasma", 7)]),
-    (b"smalldome", &[(b"shipyard", 1), (b"shielding", 2)]),
-    (b"largedome", &[(b"shipyard", 1), (b"shielding", 6)]),
+    ("ioncannon", &[("shipyard", 4), ("ion", 4)]),
+    ("plasmaturret", &[("shipyard", 8), ("plasma", 7)]),
+    ("smalldome", &[("shipyard", 1), ("shielding", 2)]),
+    ("largedome", &[("shipyard", 1), ("shielding", 6)]),
 ];
 
 /// The ships with the common rapid fire, and its targets.
-const SHOOTERS: [&[u8]; 11] = [
-    b"smallcargo",
-    b"largecargo",
-    b"lightfighter",
-    b"heavyfighter",
-    b"cruiser",
-    b"battleship",
-    b"battlecruiser",
-    b"bomber",
-    b"destroyer",
-    b"recycler",
-    b"colonyship",
+const SHOOTERS: [&str; 11] = [
+    "smallcargo",
+    "largecargo",
+    "lightfighter",
+    "heavyfighter",
+    "cruiser",
+    "battleship",
+    "battlecruiser",
+    "bomber",
+    "destroyer",
+    "recycler",
+    "colonyship",
 ];
 
-const COMMON_FIRE: [(&[u8], u32); 2] = [(b"probe", 5), (b"satellite", 5)];
+const COMMON_FIRE: [(&str, u32); 2] = [("probe", 5), ("satellite", 5)];
 
 /// Each further shooter and its targets; all other pairs have no rapid fire.
-const RAPID_FIRE: [(&[u8], &[(&[u8], u32)]); 6] = [
-    (b"heavyfighter", &[(b"smallcargo", 3)]),
-    (b"cruiser", &[(b"lightfighter", 6), (b"launcher", 10)]),
+const RAPID_FIRE: [(&str, &[(&str, u32)]); 6] = [
+    ("heavyfighter", &[("smallcargo", 3)]),
+    ("cruiser", &[("lightfighter", 6), ("launcher", 10)]),
     (
-        b"battlecruiser",
+        "battlecruiser",
         &[
-            (b"smallcargo", 3),
-            (b"largecargo", 3),
-            (b"heavyfighter", 4),
-            (b"cruiser", 4),
-            (b"battleship", 7),
+            ("smallcargo", 3),
+            ("largecargo", 3),
+            ("heavyfighter", 4),
+            ("cruiser", 4),
+            ("battleship", 7),
         ],
     ),
     (
-        b"bomber",
+        "bomber",
         &[
-            (b"launcher", 20),
-            (b"lightlaser", 20),
-            (b"heavylaser", 10),
-            (b"ioncannon", 10),
+            ("launcher", 20),
+            ("lightlaser", 20),
+            ("heavylaser", 10),
+            ("ioncannon", 10),
         ],
     ),
-    (b"destroyer", &[(b"lightlaser", 10), (b"battlecruiser", 2)]),
+    ("destroyer", &[("lightlaser", 10), ("battlecruiser", 2)]),
     (
-        b"deathstar",
+        "deathstar",
         &[
-            (b"smallcargo", 250),
-            (b"largecargo", 250),
-            (b"colonyship", 250),
-            (b"recycler", 250),
-            (b"lightfighter", 200),
-            (b"heavyfighter", 100),
-            (b"cruiser", 33),
-            (b"battleship", 30),
-            (b"bomber", 25),
-            (b"battlecruiser", 15),
-            (b"destroyer", 5),
-            (b"probe", 1250),
-            (b"satellite", 1250),
-            (b"launcher", 200),
-            (b"lightlaser", 200),
-            (b"heavylaser", 100),
-            (b"ioncannon", 100),
-            (b"gauss", 50),
+            ("smallcargo", 250),
+            ("largecargo", 250),
+            ("colonyship", 250),
+            ("recycler", 250),
+            ("lightfighter", 200),
+            ("heavyfighter", 100),
+            ("cruiser", 33),
+            ("battleship", 30),
+            ("bomber", 25),
+            ("battlecruiser", 15),
+            ("destroyer", 5),
+            ("probe", 1250),
+            ("satellite", 1250),
+            ("launcher", 200),
+            ("lightlaser", 200),
+            ("heavylaser", 100),
+            ("ioncannon", 100),
+            ("gauss", 50),
         ],
     ),
 ];
@@ -331,8 +322,8 @@ const STORAGE_LIMITS: [u64; 17] = [
 ];
 
 /// The kind of a row.
-fn kind_of(rt: &impl Abort, word: &[u8]) -> Kind {
-    Kind::read(word).expect(rt, "a row names a kind")
+fn kind_of(rt: &impl Abort, word: &str) -> Kind {
+    Kind::read(word.as_bytes()).expect(rt, "a row names a kind")
 }
 
 /// The number and the cost of a kind are those of its row.
@@ -463,7 +454,7 @@ fn prerequisites_are_as_in_their_table(rt: HostRuntime) {
 }
 
 /// What the row of a kind says that it needs.
-fn wanted_needs(kind: Kind) -> &'static [(&'static [u8], u8)] {
+fn wanted_needs(kind: Kind) -> &'static [(&'static str, u8)] {
     for (word, needs) in NEEDS {
         if word == kind.word() {
             return needs;
