@@ -3,8 +3,8 @@ ghost use Rattle.catalog.specs.RapidFire.{battlecruiser_fire, bomber_fire, commo
 
 use crate::kind::Kind;
 
-/// The rapid fire of one kind against another: 0 for none, else 2 to 1250. After a shot that hit its target's kind, a
-/// ship with rapid fire r fires again with r − 1 chances in r.
+/// The rapid fire of one kind against another: 0 for none, else 2 to 1250. After a shot at a target against which it has
+/// rapid fire r, a ship fires again with r − 1 chances in r.
 pub fn rapid(from: Kind, to: Kind) -> u32
     ensures { result ≡ rapid_of from to }
 {
