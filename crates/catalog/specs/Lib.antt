@@ -2,3 +2,10 @@ pub mod Kinds
 pub mod Classes
 pub mod Missions
 pub mod Texts
+pub mod Costs
+pub mod Levels
+pub mod Combat
+pub mod Flight
+pub mod Needs
+pub mod RapidFire
+pub mod Storage

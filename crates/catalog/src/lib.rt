@@ -3,14 +3,34 @@
 
 mod amounts;
 mod classes;
+mod combat;
+mod cost;
+mod engine;
+mod growth;
 mod kind;
 mod mission;
+mod need;
+mod rapid_fire;
 mod settings;
 mod ships;
+mod storage;
+mod table_laws;
 
 pub use amounts::{Amounts, CAP};
 pub use classes::{Building, Technology, Unit, Work};
+pub use engine::{Drive, Engine};
+pub use growth::Growth;
 pub use kind::{KINDS, Kind};
 pub use mission::Mission;
+pub use need::{GRAVITON_ENERGY, Need};
+pub use rapid_fire::rapid;
 pub use settings::{Count, SpeedSetting, Tenths};
 pub use ships::{SHIPS, Ships, UNITS};
+pub use storage::storage_limit;
+pub use table_laws::{
+    costs_are_capped, levels_are_in_range, needs_can_be_met, ships_fire_rapidly, ships_fly,
+    stores_grow, units_fight,
+};
+
+#[cfg(test)]
+mod table_tests;

@@ -1,0 +1,71 @@
+ghost use Rattle.std.specs.Prelude.{◌≡◌, ℕ, ◌<◌, ◌≤◌, ◌⊎◌, ◌↔◌, ◌||◌, All, IfSome, IsSome, IsTrue};
+ghost use Rattle.std.specs.List.Sorted.{IsStrictlyIncreasing};
+ghost use Rattle.catalog.specs.Classes.{is_building, is_ship, is_technology, is_unit};
+ghost use Rattle.catalog.specs.Combat.{attack_of, shield_of};
+ghost use Rattle.catalog.specs.Costs.{cost_of};
+ghost use Rattle.catalog.specs.Flight.{cargo_of, engine_of};
+ghost use Rattle.catalog.specs.Levels.{growth_of, level_cap_of};
+ghost use Rattle.catalog.specs.Needs.{needs_of};
+ghost use Rattle.catalog.specs.RapidFire.{rapid_of};
+ghost use Rattle.catalog.specs.Storage.{storage_limits};
+ghost use Rattle.catalog.specs.declared.amounts.TheConstants.{CAP};
+ghost use Rattle.catalog.specs.declared.kind.Kind.{Kind};
+
+/// No first cost is above the cap. It does nothing: the laws are its contract.
+pub fn costs_are_capped()
+    ensures metal { (kind : Kind) → (cost_of kind).metal ≤ CAP }
+    ensures crystal { (kind : Kind) → (cost_of kind).crystal ≤ CAP }
+    ensures deuterium { (kind : Kind) → (cost_of kind).deuterium ≤ CAP }
+{}
+
+/// The cap of each kind is from 1 to 30, a unit's is 1, and no cost falls with the level. It does nothing: the laws
+/// are its contract.
+pub fn levels_are_in_range()
+    ensures from { (kind : Kind) → 1 ≤ level_cap_of kind }
+    ensures to { (kind : Kind) → level_cap_of kind ≤ 30 }
+    ensures units { (kind : Kind) → IsTrue (is_unit kind) → level_cap_of kind ≡ 1 }
+    ensures fractions { (kind : Kind) → 1 ≤ (growth_of kind).denominator }
+    ensures growing { (kind : Kind) → (growth_of kind).denominator ≤ (growth_of kind).numerator }
+{}
+
+/// Each prerequisite is a building or a technology at a level that it can have, and no kind needs itself, not even by
+/// way of others. It does nothing: the laws are its contract.
+pub fn needs_can_be_met()
+    ensures with_levels { (kind : Kind)
+        → All (λ need. IsTrue (is_building need.kind || is_technology need.kind)) (needs_of kind) }
+    ensures from { (kind : Kind) → All (λ need. 1 ≤ need.level) (needs_of kind) }
+    ensures to { (kind : Kind) → All (λ need. need.level ≤ level_cap_of need.kind) (needs_of kind) }
+
+    // The kinds can be put in an order in which each comes after all that it needs.
+    ensures in_order { (place : Kind → ℕ)
+        × ((kind : Kind) → All (λ need. place need.kind < place kind) (needs_of kind)) }
+{}
+
+/// Only units shoot or are shielded. It does nothing: the laws are its contract.
+pub fn units_fight()
+    ensures attack { (kind : Kind) → 0 < attack_of kind → IsTrue (is_unit kind) }
+    ensures shield { (kind : Kind) → 0 < shield_of kind → IsTrue (is_unit kind) }
+{}
+
+/// A rapid fire is none or at least 2, only ships that fly have one, and only against units. It does nothing: the laws
+/// are its contract.
+pub fn ships_fire_rapidly()
+    ensures none_or_two { (from to : Kind) → (rapid_of from to ≡ 0) ⊎ (2 ≤ rapid_of from to) }
+    ensures shooters { (from to : Kind) → 0 < rapid_of from to → IsTrue (is_ship from) }
+    ensures targets { (from to : Kind) → 0 < rapid_of from to → IsTrue (is_unit to) }
+{}
+
+/// The ships that fly have an engine that moves them, and nothing else has one or carries cargo. It does nothing: the
+/// laws are its contract.
+pub fn ships_fly()
+    ensures flying { (kind : Kind) (impulse : ℕ) → IsSome (engine_of kind impulse) ↔ IsTrue (is_ship kind) }
+    ensures speed { (kind : Kind) (impulse : ℕ) → IfSome (engine_of kind impulse) (λ engine. 1 ≤ engine.speed) }
+    ensures fuel { (kind : Kind) (impulse : ℕ) → IfSome (engine_of kind impulse) (λ engine. 1 ≤ engine.fuel) }
+    ensures cargo { (kind : Kind) → 0 < cargo_of kind → IsTrue (is_ship kind) }
+{}
+
+/// The limits of a store rise with each level, and none is above the cap. It does nothing: the laws are its contract.
+pub fn stores_grow()
+    ensures rising { IsStrictlyIncreasing storage_limits }
+    ensures capped { All (λ limit. limit ≤ CAP) storage_limits }
+{}
