@@ -1,2 +1,5 @@
 pub mod Requests
 pub mod Spellings
+pub mod LineWindows
+pub mod LineSeeing
+pub mod LineKnowing

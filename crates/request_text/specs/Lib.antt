@@ -1,2 +1,5 @@
 pub mod Words
 pub mod Grammar
+pub mod Feeds
+pub mod LineReading
+pub mod Windows

@@ -5,12 +5,14 @@ mod call;
 mod coordinates;
 mod entry;
 mod laws;
+mod line_reader;
 mod request;
 
 pub use call::Call;
 pub use coordinates::{coord, player};
 pub use entry::Entry;
 pub use laws::spell_once;
+pub use line_reader::{LONGEST_LINE, Line, LineReader, MOST_TAKEN};
 pub use request::Request;
 
 #[cfg(test)]
