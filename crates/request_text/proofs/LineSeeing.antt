@@ -1,13 +1,13 @@
 -- What a line reader sees, after an answer and while it passes over a long line.
-use Rattle.std.proofs.Common.{◌≡◌, ℕ, ◌+◌, ◌-◌, ◌<◌, ◌≤◌, Bool, true, false, ◌⊎◌, inl, inr, List, [], ◌∷◌, ◌++◌, length, get_or, take, drop, refl, ◌∙◌, ap, sym, subst, arith, eqb, cond, add-one, append_assoc, append-nil, length-append}
+use Rattle.std.proofs.Common.{if◌then◌else◌, ◌≡◌, ℕ, ◌+◌, ◌-◌, ◌<◌, ◌≤◌, Bool, true, false, ◌⊎◌, inl, inr, List, [], ◌∷◌, ◌++◌, length, get_or, take, drop, refl, ◌∙◌, ap, sym, subst, arith, eqb, cond, add-one, append_assoc, append-nil, length-append}
 use Rattle.std.specs.Str.Lines.{lines, strip_carriage_return}
 use Rattle.std.proofs.Math.Seq.{split_at}
-use Rattle.std.proofs.lemmas.List.{get_or-take, take-take, length-take-le, drop_all, take_all, nil_from_length}
+use Rattle.std.proofs.lemmas.List.{get_or-take, take-take, length-take-le, drop_all, take_all, nil_from_length, length-drop}
 use Rattle.base_text.specs.Parts.{Lacks}
 use Rattle.base_text.proofs.Lacking.{lacks-append, lacks-nil}
 use Rattle.base_text.proofs.Splitting.{lines-join, lines-last, parts-one}
 use Rattle.request_text.specs.Feeds.{IsFirstFeed}
-use Rattle.request_text.specs.LineReading.{told, kept, HasEnded, IsFront, Sees, Follows, Stays, Tells, OnFault, Answers}
+use Rattle.request_text.specs.LineReading.{told, kept, HasEnded, IsFront, Sees, Follows, Stays, Tells, OnFault, Answers, Nears, ahead, taken}
 use Rattle.request_text.specs.declared.line_reader.LineReader.{LineReader}
 use Rattle.request_text.specs.declared.line_reader.Stage.TheVariants.{Open}
 use Rattle.request_text.specs.declared.line_reader.Line.{Line}
@@ -46,15 +46,13 @@ long-line true front line count passed e h =
 long-line false front line count passed e (inl h) = absurd (cc h)
 long-line false front line count passed e (inr h) = rw passed (omega (arith, e, h))
 
--- the first line of a text ends at its first line feed
-lines-cut_at : (front bytes left text : List ℕ) (place : ℕ) → Lacks 10 front → IsFirstFeed bytes place → text ≡ front ++ (bytes ++ left)
-    → lines text ≡ strip_carriage_return (front ++ take place bytes) ∷ lines (drop (place + 1) bytes ++ left)
-lines-cut_at front bytes left text place free feed parts =
+-- a text whose first line ends at its first line feed
+text-cut_at : (front bytes left text : List ℕ) (place : ℕ) → IsFirstFeed bytes place → text ≡ front ++ (bytes ++ left)
+    → text ≡ (front ++ take place bytes) ++ 10 ∷ (drop (place + 1) bytes ++ left)
+text-cut_at front bytes left text place feed parts =
     let rest = drop (place + 1) bytes in
     let split : bytes ≡ take place bytes ++ 10 ∷ rest = split_at bytes place 0 feed.within ∙ (rw (feed.here, add-one) refl) in
-    let whole : text ≡ (front ++ take place bytes) ++ 10 ∷ (rest ++ left) =
-    parts ∙ ap (λ b. front ++ (b ++ left)) split ∙ ap (λ b. front ++ b) (append_assoc (take place bytes) (10 ∷ rest) left) ∙ sym (append_assoc front (take place bytes) (10 ∷ (rest ++ left))) in
-    ap lines whole ∙ lines-join (front ++ take place bytes) (rest ++ left) (lacks-append 10 front (take place bytes) free (lacks-before bytes place feed))
+    parts ∙ ap (λ b. front ++ (b ++ left)) split ∙ ap (λ b. front ++ b) (append_assoc (take place bytes) (10 ∷ rest) left) ∙ sym (append_assoc front (take place bytes) (10 ∷ (rest ++ left)))
 
 -- a reader that passed a line sees what stands behind it
 sees-rest : (new : LineReader) (bytes left : List ℕ) → new.long ≡ false → kept new ≡ bytes → (HasEnded new.stage → bytes ++ left ≡ []) → Sees new left (bytes ++ left)
@@ -71,9 +69,16 @@ follows-cut : (old new : LineReader) (left text : List ℕ) (place : ℕ) (seen 
     → Follows new left text (strip_carriage_return (seen.front ++ take place (kept old)))
 follows-cut old new left text place seen feed same short open_yet =
     let rest = drop (place + 1) (kept old) in
+    let line = seen.front ++ take place (kept old) in
+    let whole = text-cut_at seen.front (kept old) left text place feed seen.parts in
+    let free = lacks-append 10 seen.front (take place (kept old)) (lacks-front old.long seen.front seen.passed) (lacks-before (kept old) place feed) in
     record {
+      piece = line ++ 10 ∷ [];
       rest = rest ++ left;
-      first = lines-cut_at seen.front (kept old) left text place (lacks-front old.long seen.front seen.passed) feed seen.parts;
+      parts = whole ∙ sym (append_assoc line (10 ∷ []) (rest ++ left));
+      alone = lines-join line [] free;
+      first = ap lines whole ∙ lines-join line (rest ++ left) free;
+      closed = inl (line, refl);
       sees = sees-rest new rest left short same (subst (λ s. HasEnded s → rest ++ left ≡ []) (sym open_yet) (λ h. absurd h));
     }
 
@@ -107,9 +112,14 @@ follows-last : (old new : LineReader) (text : List ℕ) (seen : Sees old [] text
 follows-last old new text seen free some none short =
     let whole : text ≡ seen.front ++ kept old = seen.parts ∙ ap (λ b. seen.front ++ b) (append-nil (kept old)) in
     let all = lacks-append 10 seen.front (kept old) (lacks-front old.long seen.front seen.passed) free in
+    let alone = lines-last (seen.front ++ kept old) (parts-one 10 (seen.front ++ kept old) all) some in
     record {
+      piece = seen.front ++ kept old;
       rest = [];
-      first = ap lines whole ∙ lines-last (seen.front ++ kept old) (parts-one 10 (seen.front ++ kept old) all) some;
+      parts = whole ∙ sym (append-nil (seen.front ++ kept old));
+      alone = alone;
+      first = ap lines whole ∙ alone;
+      closed = inr refl;
       sees = sees-rest new [] [] short none (λ h. refl);
     }
 
@@ -182,7 +192,7 @@ tells-over old new over left =
     let rest = length-append seen.front (kept old ++ left) in
     let last = length-append (kept old) left in
     let all = ap length (sym none ∙ seen.parts) in
-    (ap lines none, nil_from_length left (omega (arith, rest, last, all)))
+    (none, nil_from_length left (omega (arith, rest, last, all)))
 
 -- an answer that is no fault
 pub unfailed : (result : Line) (P : Type 0) → OnFault result ⊥ → OnFault result P
@@ -191,3 +201,19 @@ unfailed Long P h = tt
 unfailed End P h = tt
 unfailed Fault P h = absurd h
 unfailed Spent P h = tt
+
+-- an answer after which less is ahead
+pub nears-less : (before after : ℕ) (result : Line) → after < before → Nears before after result
+nears-less before after (Text n) h = h
+nears-less before after Long h = h
+nears-less before after End h = omega arith
+nears-less before after Fault h = omega arith
+nears-less before after Spent h = omega arith
+
+-- less is ahead after a line that ended at a line feed
+pub less-ahead : (old new : LineReader) (place : ℕ) → place < length (kept old) → kept new ≡ drop (place + 1) (kept old) → new.long ≡ false → taken new ≡ taken old → ahead new < ahead old
+less-ahead old new place within behind short same =
+    let rest = ap length behind ∙ length-drop (place + 1) (kept old) in
+    let extra : Bool → ℕ = λ b. if b then 1 else 0 in
+    let none = ap extra short in
+    omega (arith, rest, none, within, same)

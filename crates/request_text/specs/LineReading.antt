@@ -1,5 +1,5 @@
 -- What a line reader still has to tell, and which bytes each of its answers stands for.
-use Rattle.std.specs.Prelude.{◌≡◌, ℕ, ◌^◌, ◌<◌, ◌≤◌, ◌⊎◌, Bool, true, false, List, [], ◌∷◌, ◌++◌, length, take, drop, Option, None, Some, ⊤}
+use Rattle.std.specs.Prelude.{◌≡◌, ℕ, ◌^◌, ◌<◌, ◌≤◌, ◌⊎◌, Bool, true, false, List, [], ◌∷◌, ◌++◌, length, take, drop, Option, None, Some, ⊤, ◌-◌, if◌then◌else◌, ◌+◌}
 use Rattle.std.specs.Str.Lines.{lines}
 use Rattle.base_text.specs.Parts.{Lacks}
 use Rattle.std.specs.Io.KnownBytes.{IsAtEnd}
@@ -45,10 +45,19 @@ pub record Sees (reader : LineReader) (left text : List ℕ) : Type 0 where
   pub parts : text ≡ front ++ (kept reader ++ left)
   pub ended : HasEnded reader.stage → text ≡ []
 
--- the line is the first of the text, and the reader sees what follows it
+-- the bytes end at a line feed
+abbrev pub EndsAtFeed : List ℕ → Type 0
+EndsAtFeed bytes = (front : List ℕ) × (bytes ≡ front ++ 10 ∷ [])
+
+-- The line is the first of the text: it stands for a piece at the front of the text, up to a line feed or to the
+-- end. The reader sees the rest.
 pub record Follows (reader : LineReader) (left text line : List ℕ) : Type 0 where
+  pub piece : List ℕ
   pub rest : List ℕ
+  pub parts : text ≡ piece ++ rest
+  pub alone : lines piece ≡ line ∷ []
   pub first : lines text ≡ line ∷ lines rest
+  pub closed : EndsAtFeed piece ⊎ (rest ≡ [])
   pub sees : Sees reader left rest
 
 -- every text that was seen is still seen
@@ -59,7 +68,7 @@ Stays old left new more = (text : List ℕ) → Sees old left text → Sees new 
 abbrev pub Tells : LineReader → List ℕ → LineReader → List ℕ → Line → Type 0
 Tells old left new more (Text n) = (text : List ℕ) → Sees old left text → Follows new more text (told new)
 Tells old left new more Long = (text : List ℕ) → Sees old left text → (line : List ℕ) × (400 < length line) × Follows new more text line
-Tells old left new more End = (text : List ℕ) → Sees old left text → (lines text ≡ []) × (more ≡ [])
+Tells old left new more End = (text : List ℕ) → Sees old left text → (text ≡ []) × (more ≡ [])
 Tells old left new more Fault = Stays old left new more
 Tells old left new more Spent = Stays old left new more
 
@@ -92,6 +101,18 @@ OnFault Long P = ⊤
 OnFault End P = ⊤
 OnFault Fault P = P
 OnFault Spent P = ⊤
+
+-- how many bytes the reader may still answer for, and one more for a long line that is passed over
+abbrev pub ahead : LineReader → ℕ
+ahead reader = (2 ^ 40 - taken reader) + length (kept reader) + (if reader.long then 1 else 0)
+
+-- a line brings the reader nearer to its end, and no answer takes it away from there
+abbrev pub Nears : ℕ → ℕ → Line → Type 0
+Nears before after (Text n) = after < before
+Nears before after Long = after < before
+Nears before after End = after ≤ before
+Nears before after Fault = after ≤ before
+Nears before after Spent = after ≤ before
 
 -- it may read on, and keeps no bytes that an answer stands for
 pub record IsReading (reader : LineReader) : Type 0 where

@@ -74,7 +74,7 @@ pub struct LineReader {
 
 impl LineReader {
     ghost use Rattle.request_text.specs.Feeds.{IsFirstFeed};
-    ghost use Rattle.request_text.specs.LineReading.{told, kept, taken, HasEnded, Sees, Stays, Tells, IsOver, IsSpent, Leaves, Known, OnFault, Refills, Answers, IsReading};
+    ghost use Rattle.request_text.specs.LineReading.{told, kept, taken, HasEnded, Sees, Stays, Tells, IsOver, IsSpent, Leaves, Known, OnFault, Refills, Answers, IsReading, ahead, Nears};
 
     /// A reader that has taken no byte yet, with all the memory that it needs.
     pub fn new(alloc: Global) -> Result<LineReader, AllocError>
@@ -82,6 +82,7 @@ impl LineReader {
         ensures only { IfOk result (λ r. (left text : List ℕ) → Sees r left text → text ≡ left) }
         ensures told { IfOk result (λ r. told r ≡ []) }
         ensures taken { IfOk result (λ r. taken r ≡ 0) }
+        ensures ahead { IfOk result (λ r. ahead r ≡ 2 ^ 40) }
     {
         let window = Window::new(alloc)?;
         Ok(LineReader {
@@ -109,6 +110,7 @@ impl LineReader {
             (λ left more. taken self.new + length more ≡ taken self.old + length left) }
         ensures more { taken self.old ≤ taken self.new }
         ensures most { taken self.new ≤ 2 ^ 40 }
+        ensures nears { Nears (ahead self.old) (ahead self.new) result }
         ensures faults { S.faults src.old ≤ S.faults src.new }
         ensures cause { OnFault result (Rose (S.faults src.old) (S.faults src.new)) }
         ensures over { IsOver self.old → (result ≡ Line.End) × (self.new ≡ self.old) × (src.new ≡ src.old) }
@@ -127,6 +129,7 @@ impl LineReader {
         requires ended { HasEnded self.old.stage }
         ensures end { result ≡ Line.End }
         ensures leaves { Leaves self.new Line.End }
+        ensures ahead { ahead self.new ≡ ahead self.old }
         ensures taken { taken self.new ≡ taken self.old }
     {
         self.line = 0;
@@ -141,6 +144,7 @@ impl LineReader {
         ensures counts { Known (S.left src.old) (S.left src.new)
             (λ left more. taken self.new + length more ≡ taken self.old + length left) }
         ensures more { taken self.old ≤ taken self.new }
+        ensures nears { Nears (ahead self.old) (ahead self.new) result }
         ensures faults { S.faults src.old ≤ S.faults src.new }
         ensures cause { OnFault result (Rose (S.faults src.old) (S.faults src.new)) }
     {
@@ -188,6 +192,7 @@ impl LineReader {
         ensures tells { (left : List ℕ) → Tells self.old left self.new left result }
         ensures unfailed { OnFault result ⊥ }
         ensures leaves { Leaves self.new result }
+        ensures nears { Nears (ahead self.old) (ahead self.new) result }
         ensures taken { taken self.new ≡ taken self.old }
     {
         let count = line_length(&self.kept()[..place]);
@@ -201,6 +206,7 @@ impl LineReader {
         ensures tells { Tells self.old [] self.new [] result }
         ensures unfailed { OnFault result ⊥ }
         ensures leaves { Leaves self.new result }
+        ensures nears { Nears (ahead self.old) (ahead self.new) result }
         ensures taken { taken self.new ≡ taken self.old }
     {
         let count = self.kept().len();
@@ -245,6 +251,7 @@ impl LineReader {
         ensures short { length (kept self.new) ≤ 401 }
         ensures unbroken { Lacks 10 (kept self.new) }
         ensures reads { IsReading self.new }
+        ensures ahead { ahead self.new ≤ ahead self.old }
         ensures taken { taken self.new ≡ taken self.old }
     {
         let count = self.kept().len();
@@ -266,6 +273,7 @@ impl LineReader {
         ensures front { take (length (kept self.old)) (kept self.new) ≡ kept self.old }
         ensures within { length (kept self.old) ≤ length (kept self.new) }
         ensures more { taken self.old ≤ taken self.new }
+        ensures ahead { ahead self.new ≡ ahead self.old }
         ensures faults { S.faults src.old ≤ S.faults src.new }
     {
         let allowed = (MOST_TAKEN - self.taken).min(SIZE as u64) as usize;

@@ -73,7 +73,9 @@ fn move_to_front(bytes: &mut [u8], start: usize, end: usize)
     requires within { end ≤ length bytes.old }
     ensures { take (end - start) bytes.new ≡ slice_range bytes.old start end }
 {
-    bytes.copy_within(start..end, 0);
+    if start > 0 {
+        bytes.copy_within(start..end, 0);
+    }
 }
 
 // Moves the bytes from `start` to `end` to the front, and reads at most `most` bytes behind them.
