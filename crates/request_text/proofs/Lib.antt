@@ -3,3 +3,4 @@ pub mod Spellings
 pub mod LineWindows
 pub mod LineSeeing
 pub mod LineKnowing
+pub mod LineHearing

@@ -26,14 +26,14 @@ lacks-before : (bytes : List ℕ) (place : ℕ) → IsFirstFeed bytes place → 
 lacks-before bytes place feed =
     record {
       apart =
-        λ k h.
-        let l : length (take place bytes) ≡ place = length-take-le place bytes (omega (arith, feed.within)) in
-        let near : k < place = omega (arith, l, h) in
-        rw (get_or-take place bytes k 0 near) (feed.before k near);
+          λ k h.
+          let l : length (take place bytes) ≡ place = length-take-le place bytes (omega (arith, feed.within)) in
+          let near : k < place = omega (arith, l, h) in
+          rw (get_or-take place bytes k 0 near) (feed.before k near);
     }
 
 -- so has a front that was passed over
-lacks-front : (long : Bool) (front : List ℕ) → IsFront long front → Lacks 10 front
+pub lacks-front : (long : Bool) (front : List ℕ) → IsFront long front → Lacks 10 front
 lacks-front true front passed = passed.1
 lacks-front false front passed = subst (Lacks 10) (sym passed) (lacks-nil 10)
 

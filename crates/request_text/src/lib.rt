@@ -16,4 +16,6 @@ pub use line_reader::{LONGEST_LINE, Line, LineReader, MOST_TAKEN};
 pub use request::Request;
 
 #[cfg(test)]
+mod line_reader_tests;
+#[cfg(test)]
 mod tests;

@@ -52,7 +52,7 @@ impl Window {
         requires some { 0 < most }
         ensures bytes { MatchResult result
             (λ n. (got : List ℕ) × (length got ≡ n) × (items self.new ≡ items self.old ++ got)
-                × Consumes (S.left src.old) (S.left src.new) got)
+            × Consumes (S.left src.old) (S.left src.new) got)
             (λ _. (items self.new ≡ items self.old) × Keeps (S.left src.old) (S.left src.new)) }
         ensures most { IfOk result (λ n. n ≤ most) }
         ensures end { IfOk result (λ n. n ≡ 0 → IsAtEnd (S.left src.new)) }
@@ -92,7 +92,7 @@ fn read_behind<S: Source>(
     requires some { 0 < most }
     ensures bytes { MatchResult result
         (λ n. (got : List ℕ) × (length got ≡ n) × (take (end - start + n) bytes.new ≡ slice_range bytes.old start end ++ got)
-            × Consumes (S.left src.old) (S.left src.new) got)
+        × Consumes (S.left src.old) (S.left src.new) got)
         (λ _. (take (end - start) bytes.new ≡ slice_range bytes.old start end) × Keeps (S.left src.old) (S.left src.new)) }
     ensures bound { IfOk result (λ n. (n ≤ most) × (end - start + n ≤ length bytes.new)) }
     ensures end { IfOk result (λ n. n ≡ 0 → IsAtEnd (S.left src.new)) }

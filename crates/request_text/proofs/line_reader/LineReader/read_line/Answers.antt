@@ -33,11 +33,11 @@ pieces-preserved g c =
       within = all;
       clean = λ k h. let near : k < length (kept held) = omega (arith, whole, h) in rw (sym (get_or-take (length (kept held)) (kept new) k 0 near), more.front) (long.unbroken.apart k near);
       stays =
-        known-then (left c.args.src.now) (left c.pieces.src) (left c.refill.new.src) (λ x y. Stays old x now y) (λ y z. Stays held y new z) (λ x z. Stays old x new z)
-        (λ x y z first then text seen. then text (long.stays y text (first text seen))) before.stays more.stays;
+          known-then (left c.args.src.now) (left c.pieces.src) (left c.refill.new.src) (λ x y. Stays old x now y) (λ y z. Stays held y new z) (λ x z. Stays old x new z)
+          (λ x y z first then text seen. then text (long.stays y text (first text seen))) before.stays more.stays;
       counts =
-        known-then (left c.args.src.now) (left c.pieces.src) (left c.refill.new.src) (λ x y. taken now + length y ≡ taken old + length x) (λ y z. taken new + length z ≡ taken held + length y)
-        (λ x z. taken new + length z ≡ taken old + length x) (λ x y z first then. omega (arith, first, then, long.taken)) before.counts more.counts;
+          known-then (left c.args.src.now) (left c.pieces.src) (left c.refill.new.src) (λ x y. taken now + length y ≡ taken old + length x) (λ y z. taken new + length z ≡ taken held + length y)
+          (λ x z. taken new + length z ≡ taken old + length x) (λ x y z first then. omega (arith, first, then, long.taken)) before.counts more.counts;
       later = omega (arith, before.later, long.taken, more.more);
       nearer = omega (arith, before.nearer, long.ahead, more.ahead);
       faults = omega (arith, before.faults, more.faults);
