@@ -7,7 +7,8 @@ use Rattle.base_text.specs.Parts.{Lacks}
 use Rattle.base_text.proofs.Lacking.{lacks-append, lacks-nil}
 use Rattle.base_text.proofs.Splitting.{lines-join, lines-last, parts-one}
 use Rattle.request_text.specs.Feeds.{IsFirstFeed}
-use Rattle.request_text.specs.LineReading.{told, kept, HasEnded, IsFront, Sees, Follows, Stays, Tells, OnFault, Answers, Nears, ahead, taken}
+use Rattle.request_text.specs.LineReading.{told, kept, HasEnded, IsFront, Sees, Follows, Stays, Tells, OnFault, Nears, ahead, taken}
+use Rattle.request_text.specs.LineSteps.{Answers}
 use Rattle.request_text.specs.declared.line_reader.LineReader.{LineReader}
 use Rattle.request_text.specs.declared.line_reader.Stage.TheVariants.{Open}
 use Rattle.request_text.specs.declared.line_reader.Line.{Line}

@@ -1,15 +1,12 @@
--- What a line reader still has to tell, and which bytes each of its answers stands for.
-use Rattle.std.specs.Prelude.{◌≡◌, ℕ, ◌^◌, ◌<◌, ◌≤◌, ◌⊎◌, Bool, true, false, List, [], ◌∷◌, ◌++◌, length, take, drop, Option, None, Some, ⊤, ◌-◌, if◌then◌else◌, ◌+◌}
+-- What a line reader still has to tell, and which bytes each of its answers stands for. Rule: docs/PROTOCOL.md,
+-- "Lines, words, numbers".
+use Rattle.std.specs.Prelude.{◌≡◌, ℕ, ◌+◌, ◌-◌, ◌^◌, ◌<◌, ◌≤◌, ◌⊎◌, Bool, true, false, if◌then◌else◌, List, [], ◌∷◌, ◌++◌, length, take, drop, Option, None, Some, ⊤}
 use Rattle.std.specs.Str.Lines.{lines}
 use Rattle.base_text.specs.Parts.{Lacks}
-use Rattle.std.specs.Io.KnownBytes.{IsAtEnd}
-use Rattle.ports.specs.Causes.{Rose}
 use Rattle.request_text.specs.Windows.{items}
 use Rattle.request_text.specs.declared.line_reader.LineReader.{LineReader}
 use Rattle.request_text.specs.declared.line_reader.Stage.{Stage}
 use Rattle.request_text.specs.declared.line_reader.Stage.TheVariants.{Open, Last, Over, Exhausted}
-use Rattle.request_text.specs.declared.line_reader.Refilled.{Refilled}
-use Rattle.request_text.specs.declared.line_reader.Refilled.TheVariants.{More, AtEnd, Failing, Full}
 use Rattle.request_text.specs.declared.line_reader.Line.{Line}
 use Rattle.request_text.specs.declared.line_reader.Line.TheVariants.{Text, Long, End, Fault, Spent}
 
@@ -38,7 +35,8 @@ IsFront false front = front ≡ []
 IsFront true front = (401 < length front) × Lacks 10 front
 
 -- What the reader still has to tell, together with what the source has left, is this text. While a long line is
--- passed over, its front is known no more: any front of more than 401 bytes with no line feed will do.
+-- passed over, its front is known no more: any front of more than 401 bytes without a line feed will do. (A line
+-- of 400 bytes takes 401 before its line feed where it has a carriage return there.)
 pub record Sees (reader : LineReader) (left text : List ℕ) : Type 0 where
   pub front : List ℕ
   pub passed : IsFront reader.long front
@@ -88,7 +86,7 @@ Leaves new End = IsOver new × (told new ≡ [])
 Leaves new Fault = (told new ≡ []) × (taken new < 2 ^ 40) × Lacks 10 (kept new)
 Leaves new Spent = IsSpent new × (told new ≡ []) × (taken new ≡ 2 ^ 40) × Lacks 10 (kept new)
 
--- a fact of what a source had left and of what it has left, where the source tells
+-- a fact of what a source had left and what it has left now, where the source tells
 abbrev pub Known : Option (List ℕ) → Option (List ℕ) → (List ℕ → List ℕ → Type 0) → Type 0
 Known None after P = ⊤
 Known (Some left) None P = ⊥
@@ -113,24 +111,3 @@ Nears before after Long = after < before
 Nears before after End = after ≤ before
 Nears before after Fault = after ≤ before
 Nears before after Spent = after ≤ before
-
--- it may read on, and keeps no bytes that an answer stands for
-pub record IsReading (reader : LineReader) : Type 0 where
-  pub open_yet : reader.stage ≡ Open
-  pub untold : reader.line ≡ 0
-  pub unanswered : reader.answered ≡ 0
-
--- what came of reading on: more bytes were taken, the input ended, a read failed, or no more may be taken
-abbrev pub Refills : LineReader → LineReader → Option (List ℕ) → ℕ → ℕ → Refilled → Type 0
-Refills old new left before after More = (taken old < taken new) × IsReading new
-Refills old new left before after AtEnd = IsAtEnd left × (kept new ≡ kept old) × IsReading new
-Refills old new left before after Failing = Rose before after × Leaves new Fault
-Refills old new left before after Full = Leaves new Spent
-
--- the line that ends in the first so many bytes that are kept is a text or is long
-abbrev pub Answers : LineReader → ℕ → LineReader → Line → Type 0
-Answers old count new (Text n) = (n ≡ count) × (old.long ≡ false) × (told new ≡ take count (kept old))
-Answers old count new Long = (old.long ≡ true) ⊎ (400 < count)
-Answers old count new End = ⊥
-Answers old count new Fault = ⊥
-Answers old count new Spent = ⊥

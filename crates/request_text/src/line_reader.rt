@@ -74,7 +74,8 @@ pub struct LineReader {
 
 impl LineReader {
     ghost use Rattle.request_text.specs.Feeds.{IsFirstFeed};
-    ghost use Rattle.request_text.specs.LineReading.{told, kept, taken, HasEnded, Sees, Stays, Tells, IsOver, IsSpent, Leaves, Known, OnFault, Refills, Answers, IsReading, ahead, Nears};
+    ghost use Rattle.request_text.specs.LineReading.{told, kept, taken, HasEnded, Sees, Stays, Tells, IsOver, IsSpent, Leaves, Known, OnFault, ahead, Nears};
+    ghost use Rattle.request_text.specs.LineSteps.{Refills, Answers, IsReading};
 
     /// A reader that has taken no byte yet, with all the memory that it needs.
     pub fn new(alloc: Global) -> Result<LineReader, AllocError>
@@ -102,13 +103,14 @@ impl LineReader {
         &self.window.as_slice()[..self.line]
     }
 
-    /// The next line of the source, which is read as far as needed.
+    /// Reads the source as far as needed, at most `MOST_TAKEN` bytes of it in all, and answers its next line. After
+    /// `End` and `Spent` each call answers the same, and reads nothing.
     pub fn next<S: Source>(&mut self, src: &mut S) -> Line
         ensures tells { Known (S.left src.old) (S.left src.new) (λ left more. Tells self.old left self.new more result) }
         ensures leaves { Leaves self.new result }
         ensures counts { Known (S.left src.old) (S.left src.new)
             (λ left more. taken self.new + length more ≡ taken self.old + length left) }
-        ensures more { taken self.old ≤ taken self.new }
+        ensures grows { taken self.old ≤ taken self.new }
         ensures most { taken self.new ≤ 2 ^ 40 }
         ensures nears { Nears (ahead self.old) (ahead self.new) result }
         ensures faults { S.faults src.old ≤ S.faults src.new }
@@ -137,13 +139,14 @@ impl LineReader {
         Line::End
     }
 
+    // Answers the next line, where the reader may read on.
     fn read_line<S: Source>(&mut self, src: &mut S) -> Line
         requires { self.old.stage ≡ Stage.Open }
         ensures tells { Known (S.left src.old) (S.left src.new) (λ left more. Tells self.old left self.new more result) }
         ensures leaves { Leaves self.new result }
         ensures counts { Known (S.left src.old) (S.left src.new)
             (λ left more. taken self.new + length more ≡ taken self.old + length left) }
-        ensures more { taken self.old ≤ taken self.new }
+        ensures grows { taken self.old ≤ taken self.new }
         ensures nears { Nears (ahead self.old) (ahead self.new) result }
         ensures faults { S.faults src.old ≤ S.faults src.new }
         ensures cause { OnFault result (Rose (S.faults src.old) (S.faults src.new)) }
@@ -272,7 +275,7 @@ impl LineReader {
             (λ left more. taken self.new + length more ≡ taken self.old + length left) }
         ensures front { take (length (kept self.old)) (kept self.new) ≡ kept self.old }
         ensures within { length (kept self.old) ≤ length (kept self.new) }
-        ensures more { taken self.old ≤ taken self.new }
+        ensures grows { taken self.old ≤ taken self.new }
         ensures ahead { ahead self.new ≡ ahead self.old }
         ensures faults { S.faults src.old ≤ S.faults src.new }
     {

@@ -58,13 +58,13 @@ impl Window {
         ensures end { IfOk result (λ n. n ≡ 0 → IsAtEnd (S.left src.new)) }
         ensures cause { HasCause (S.faults src.old) (S.faults src.new) result }
     {
-        let count = read_behind(src, &mut self.bytes, self.start, self.end, most);
+        let got = read_behind(src, &mut self.bytes, self.start, self.end, most);
         self.end -= self.start;
         self.start = 0;
-        if let Ok(count) = count {
+        if let Ok(count) = got {
             self.end += count;
         }
-        count
+        got
     }
 }
 

@@ -38,7 +38,7 @@ pieces-preserved g c =
       counts =
           known-then (left c.args.src.now) (left c.pieces.src) (left c.refill.new.src) (λ x y. taken now + length y ≡ taken old + length x) (λ y z. taken new + length z ≡ taken held + length y)
           (λ x z. taken new + length z ≡ taken old + length x) (λ x y z first then. omega (arith, first, then, long.taken)) before.counts more.counts;
-      later = omega (arith, before.later, long.taken, more.more);
+      later = omega (arith, before.later, long.taken, more.grows);
       nearer = omega (arith, before.nearer, long.ahead, more.ahead);
       faults = omega (arith, before.faults, more.faults);
     }

@@ -1,7 +1,8 @@
 -- The reader sees what it saw before, and no byte before the place is a line feed.
 use Rattle.std.proofs.Common.{◌≡◌, ◌+◌, ◌-◌, ◌^◌, ◌≤◌, length}
 use Rattle.request_text.specs.Feeds.{IsClean}
-use Rattle.request_text.specs.LineReading.{Known, Stays, IsReading, ahead, kept, taken}
+use Rattle.request_text.specs.LineReading.{Known, Stays, ahead, kept, taken}
+use Rattle.request_text.specs.LineSteps.{IsReading}
 use Rattle.request_text.proofs.line_reader.LineReader.read_line.Given as goal
 
 abbrev pub invariant-pieces : goal.invariant-pieces
