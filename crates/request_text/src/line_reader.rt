@@ -34,6 +34,9 @@ pub enum Line {
     Spent,
 }
 
+// The most bytes before the line feed of a line that is a text: one of them may be a carriage return.
+const MOST_BEFORE_FEED: usize = LONGEST_LINE + 1;
+
 // How far a reader has come: it may read on, it has answered the last line, it has answered the
 // end, or it has taken all that it may take.
 #[derive(Clone, Copy)]
@@ -258,7 +261,7 @@ impl LineReader {
         ensures taken { taken self.new ≡ taken self.old }
     {
         let count = self.kept().len();
-        if self.long || count > LONGEST_LINE + 1 {
+        if self.long || count > MOST_BEFORE_FEED {
             self.long = true;
             self.window.pass(count);
         }
