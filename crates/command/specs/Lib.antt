@@ -1,3 +1,1 @@
-pub mod Founding
-pub mod Streams
-pub mod Trial
+pub mod Answers
