@@ -94,6 +94,8 @@ fn answer_next<S: Source, C: Clock>(
     ensures nearer { IsNearer (ahead lines.old) (ahead lines.new) result }
     ensures reason { HasReason (S.faults source.old) (S.faults source.new) lines.new result }
     ensures faults { S.faults source.old ≤ S.faults source.new }
+    ensures counts { Known (S.left source.old) (S.left source.new)
+        (λ left more. taken lines.new + length more ≡ taken lines.old + length left) }
     ensures number { universe.new.number ≤ universe.old.number + 1 }
 {
     match lines.next(source) {
@@ -141,6 +143,8 @@ pub fn answer_lines<S: Source, K: Sink, C: Clock>(
         (C.told clock.old) (C.told clock.new) (K.written sink.old) (K.written sink.new)) }
     ensures source_fault { result ≡ SOURCE_FAULT → Rose (S.faults source.old) (S.faults source.new) }
     ensures too_long { result ≡ TOO_LONG → taken lines.new ≡ 2 ^ 40 }
+    ensures counts { Known (S.left source.old) (S.left source.new)
+        (λ left more. taken lines.new + length more ≡ taken lines.old + length left) }
     ensures sink_fault { result ≡ SINK_FAULT → Rose (K.faults sink.old) (K.faults sink.new) }
 {
     let mut out = Bytes::new(alloc);

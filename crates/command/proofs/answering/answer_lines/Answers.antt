@@ -1,8 +1,8 @@
-use Rattle.std.proofs.Common.{◌≡◌, ◌+◌, ◌≤◌, [], List, ℕ, arith, subst, take, inl, inr}
+use Rattle.std.proofs.Common.{◌≡◌, ◌+◌, ◌≤◌, [], List, ℕ, arith, length, refl, subst, take, ◌∙◌}
 use Rattle.std.specs.Io.KnownBytes.{Appends}
 use Rattle.std.specs.Str.Lines.{lines}
 use Rattle.request_text.proofs.LineKnowing.{known-map, known-same, known-then}
-use Rattle.request_text.specs.LineReading.{Sees}
+use Rattle.request_text.specs.LineReading.{Sees, taken}
 use Rattle.tick_model.specs.Strict.{universe_of}
 use Rattle.command.specs.Answers.{Answered, AnsweredPart, BrokeOff}
 use Rattle.command.proofs.Progress.{Come, come-broken, come-end, come-more, come-part, come-start, come-stopped}
@@ -13,6 +13,7 @@ script-init g c = record {
   room = c.requires.room;
   source_faults = omega arith;
   sink_faults = omega arith;
+  counts = known-same (g.S.Source.left c.args.source.now) _ (λ x. refl);
   come = known-same (g.S.Source.left c.args.source.now) _ (λ x text sees. come-start c.args.lines.now x (universe_of c.args.universe.now) text (g.C.Clock.told c.args.clock.now) (g.K.Sink.written c.args.sink.now) sees);
 }
 
@@ -110,6 +111,46 @@ returns-in_default-clause-broke_off g c = λ is.
     known-then (left c.args.source.now) (left c.script.source) (left c.answer_next.new.source) _ _ (λ x z. (text : List ℕ) → Sees c.args.lines.now x text → BrokeOff base (lines text) t0 t2 w0 w2)
     (λ x y z first goes text sees. let before = first text sees in come-broken old new y z base now next text answer front.0 t0 t1 t2 w0 w1 w2 before (goes before.rest before.sees) wrote) c.script.invariant.come c.in-Answered.ensures.goes
 
+pub returns-in-End-clause-counts :
+    goal.returns-in-End-clause-counts
+returns-in-End-clause-counts g c =
+    let left = g.S.Source.left in
+    let new = c.answer_next.new.lines in
+    known-then (left c.args.source.now) (left c.script.source) (left c.answer_next.new.source) _ _ (λ x z. taken new + length z ≡ taken c.args.lines.now + length x)
+    (λ x y z first second. second ∙ first) c.script.invariant.counts c.in-End.ensures.counts
+
+pub returns-in-Fault-clause-counts :
+    goal.returns-in-Fault-clause-counts
+returns-in-Fault-clause-counts g c =
+    let left = g.S.Source.left in
+    let new = c.answer_next.new.lines in
+    known-then (left c.args.source.now) (left c.script.source) (left c.answer_next.new.source) _ _ (λ x z. taken new + length z ≡ taken c.args.lines.now + length x)
+    (λ x y z first second. second ∙ first) c.script.invariant.counts c.in-Fault.ensures.counts
+
+pub returns-in-Spent-clause-counts :
+    goal.returns-in-Spent-clause-counts
+returns-in-Spent-clause-counts g c =
+    let left = g.S.Source.left in
+    let new = c.answer_next.new.lines in
+    known-then (left c.args.source.now) (left c.script.source) (left c.answer_next.new.source) _ _ (λ x z. taken new + length z ≡ taken c.args.lines.now + length x)
+    (λ x y z first second. second ∙ first) c.script.invariant.counts c.in-Spent.ensures.counts
+
+pub returns-in-Memory-clause-counts :
+    goal.returns-in-Memory-clause-counts
+returns-in-Memory-clause-counts g c =
+    let left = g.S.Source.left in
+    let new = c.answer_next.new.lines in
+    known-then (left c.args.source.now) (left c.script.source) (left c.answer_next.new.source) _ _ (λ x z. taken new + length z ≡ taken c.args.lines.now + length x)
+    (λ x y z first second. second ∙ first) c.script.invariant.counts c.in-Memory.ensures.counts
+
+pub returns-in_default-clause-counts :
+    goal.returns-in_default-clause-counts
+returns-in_default-clause-counts g c =
+    let left = g.S.Source.left in
+    let new = c.answer_next.new.lines in
+    known-then (left c.args.source.now) (left c.script.source) (left c.answer_next.new.source) _ _ (λ x z. taken new + length z ≡ taken c.args.lines.now + length x)
+    (λ x y z first second. second ∙ first) c.script.invariant.counts c.in-Answered.ensures.counts
+
 pub script-preserved : goal.script-preserved
 script-preserved g c =
     let left = g.S.Source.left in
@@ -139,7 +180,10 @@ script-preserved g c =
       room = omega (arith, before_room, number, nearer);
       source_faults = omega (arith, source_faults, source_later);
       sink_faults = omega (arith, sink_faults, sink_later);
+      counts =
+          known-then (left c.args.source.now) (left c.script.source) (left c.answer_next.new.source) _ _ (λ x z. taken new + length z ≡ taken c.args.lines.now + length x)
+          (λ x y z first second. second ∙ first) c.script.invariant.counts c.in-Answered.ensures.counts;
       come =
-        known-then (left c.args.source.now) (left c.script.source) (left c.answer_next.new.source) _ _ (λ x z. (text : List ℕ) → Sees c.args.lines.now x text → Come new z base next text t0 t2 w0 w2)
-    (λ x y z first goes text sees. let before = first text sees in come-more old new y z base now next text answer t0 t1 t2 w0 w1 w2 before (goes before.rest before.sees) wrote) c.script.invariant.come c.in-Answered.ensures.goes;
+          known-then (left c.args.source.now) (left c.script.source) (left c.answer_next.new.source) _ _ (λ x z. (text : List ℕ) → Sees c.args.lines.now x text → Come new z base next text t0 t2 w0 w2)
+          (λ x y z first goes text sees. let before = first text sees in come-more old new y z base now next text answer t0 t1 t2 w0 w1 w2 before (goes before.rest before.sees) wrote) c.script.invariant.come c.in-Answered.ensures.goes;
     }

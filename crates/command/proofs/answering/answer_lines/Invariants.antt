@@ -1,6 +1,6 @@
 -- The lines that were taken so far were answered.
-use Rattle.std.proofs.Common.{ℕ, List, ◌+◌, ◌≤◌, ◌^◌}
-use Rattle.request_text.specs.LineReading.{Known, Sees, ahead}
+use Rattle.std.proofs.Common.{◌≡◌, ℕ, List, ◌+◌, ◌≤◌, ◌^◌, length}
+use Rattle.request_text.specs.LineReading.{Known, Sees, ahead, taken}
 use Rattle.tick_model.specs.Strict.{universe_of}
 use Rattle.command.proofs.Progress.{Come}
 use Rattle.command.proofs.answering.answer_lines.Given as goal
@@ -14,6 +14,7 @@ invariant-script g l =
       room : l.universe.number + ahead l.lines ≤ 2 ^ 40;
       source_faults : g.S.Source.faults l.fn.source ≤ g.S.Source.faults l.source;
       sink_faults : g.K.Sink.faults l.fn.sink ≤ g.K.Sink.faults l.sink;
+      counts : Known (left l.fn.source) (left l.source) (λ before after. taken l.lines + length after ≡ taken l.fn.lines + length before);
       come : Known (left l.fn.source) (left l.source) (λ before after. (text : List ℕ) → Sees l.fn.lines before text
           → Come l.lines after (universe_of l.fn.universe) (universe_of l.universe) text (told l.fn.clock) (told l.clock) (written l.fn.sink) (written l.sink));
     }
