@@ -5,10 +5,12 @@ ghost use Rattle.request_text.specs.LineReading.{Known};
 ghost use Rattle.command.specs.Trial.{IsStatus, IsTrial, Refused, RefusedBroken, Tried, TriedBroken, TriedPart, bad_founding};
 
 use crate::answering::answer_lines;
-use crate::status::{NO_MEMORY, NOT_A_COMMAND, NOT_FOUNDED, SINK_FAULT, SOURCE_FAULT, TOO_LONG};
+use crate::status::{
+    DONE, NO_MEMORY, NOT_A_COMMAND, NOT_FOUNDED, SINK_FAULT, SOURCE_FAULT, TOO_LONG,
+};
 use crate::streams::write_all;
 use base_text::is_same;
-use founding::Outcome;
+use founding::Founding;
 use ports::{Clock, Sink, Source};
 use request_text::LineReader;
 use std::alloc::{AllocError, Global};
@@ -62,10 +64,10 @@ fn trial<S: Source, K: Sink, C: Clock>(
         Tried text more (C.told clock.old) (C.told clock.new) (K.written sink.old) (K.written sink.new)) }
     ensures partly { (result ≡ SOURCE_FAULT) ⊎ (result ≡ TOO_LONG) → ((sink.new ≡ sink.old) × (clock.new ≡ clock.old))
         ⊎ Known (S.left source.old) (S.left source.new) (λ text more.
-            TriedPart text more (C.told clock.old) (C.told clock.new) (K.written sink.old) (K.written sink.new)) }
+        TriedPart text more (C.told clock.old) (C.told clock.new) (K.written sink.old) (K.written sink.new)) }
     ensures broken { result ≡ SINK_FAULT → Known (S.left source.old) (S.left source.new) (λ text more.
         TriedBroken text (C.told clock.old) (C.told clock.new) (K.written sink.old) (K.written sink.new)
-            ⊎ RefusedBroken text (K.written sink.old) (K.written sink.new)) }
+        ⊎ RefusedBroken text (K.written sink.old) (K.written sink.new)) }
     ensures no_memory { result ≡ NO_MEMORY → (sink.new ≡ sink.old) ⊎ Known (S.left source.old) (S.left source.new) (λ text more.
         TriedBroken text (C.told clock.old) (C.told clock.new) (K.written sink.old) (K.written sink.new)) }
     ensures not_founded { result ≡ NOT_FOUNDED → (clock.new ≡ clock.old) × Known (S.left source.old) (S.left source.new)
@@ -79,13 +81,13 @@ fn trial<S: Source, K: Sink, C: Clock>(
         return NO_MEMORY;
     };
     match founding::read(alloc, &mut lines, source) {
-        Outcome::Founded(mut universe) => {
+        Founding::Founded(mut universe) => {
             answer_lines(alloc, &mut universe, &mut lines, source, clock, sink)
         }
-        Outcome::Bad(number) => refuse(alloc, number, sink),
-        Outcome::Fault => SOURCE_FAULT,
-        Outcome::Spent => TOO_LONG,
-        Outcome::Memory => NO_MEMORY,
+        Founding::Bad(number) => refuse(alloc, number, sink),
+        Founding::Fault => SOURCE_FAULT,
+        Founding::Spent => TOO_LONG,
+        Founding::Memory => NO_MEMORY,
     }
 }
 
@@ -112,10 +114,10 @@ pub fn run<S: Source, K: Sink, C: Clock>(
         Tried text more (C.told clock.old) (C.told clock.new) (K.written sink.old) (K.written sink.new)) }
     ensures partly { (result ≡ SOURCE_FAULT) ⊎ (result ≡ TOO_LONG) → ((sink.new ≡ sink.old) × (clock.new ≡ clock.old))
         ⊎ Known (S.left source.old) (S.left source.new) (λ text more.
-            TriedPart text more (C.told clock.old) (C.told clock.new) (K.written sink.old) (K.written sink.new)) }
+        TriedPart text more (C.told clock.old) (C.told clock.new) (K.written sink.old) (K.written sink.new)) }
     ensures broken { result ≡ SINK_FAULT → Known (S.left source.old) (S.left source.new) (λ text more.
         TriedBroken text (C.told clock.old) (C.told clock.new) (K.written sink.old) (K.written sink.new)
-            ⊎ RefusedBroken text (K.written sink.old) (K.written sink.new)) }
+        ⊎ RefusedBroken text (K.written sink.old) (K.written sink.new)) }
     ensures no_memory { result ≡ NO_MEMORY → (sink.new ≡ sink.old) ⊎ Known (S.left source.old) (S.left source.new) (λ text more.
         TriedBroken text (C.told clock.old) (C.told clock.new) (K.written sink.old) (K.written sink.new)) }
     ensures not_founded { result ≡ NOT_FOUNDED → (clock.new ≡ clock.old) × Known (S.left source.old) (S.left source.new)
