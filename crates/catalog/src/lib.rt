@@ -14,3 +14,6 @@ pub use kind::{KINDS, Kind};
 pub use mission::Mission;
 pub use settings::{Count, SpeedSetting, Tenths};
 pub use ships::{SHIPS, Ships, UNITS};
+
+#[cfg(test)]
+mod tests;
