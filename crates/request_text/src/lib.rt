@@ -10,6 +10,8 @@ mod forms;
 mod laws;
 mod request;
 mod ship_counts;
+#[cfg(test)]
+mod tests;
 
 pub use call::Call;
 pub use coordinates::{coord, player, system};
