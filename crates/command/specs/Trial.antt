@@ -3,7 +3,7 @@ use Rattle.std.specs.Prelude.{◌≡◌, ℕ, ◌⊎◌, List, [], ◌∷◌, ta
 use Rattle.std.specs.Fmt.{decimal}
 use Rattle.std.specs.Io.KnownBytes.{Appends}
 use Rattle.std.specs.Str.Lines.{lines}
-use Rattle.founding.specs.Founding.{Founds, IsBadAt}
+use Rattle.founding.specs.Founding.{Founds, IsBadAt, IsUnfinished}
 use Rattle.tick_model.specs.Reply.{line}
 use Rattle.tick_model.specs.Universe.{Universe}
 use Rattle.command.specs.Answers.{Answered, AnsweredPart, BrokeOff}
@@ -24,6 +24,12 @@ pub record TriedPart (text more : List ℕ) (told_before told_after written_befo
   pub rest : List ℕ
   pub founds : Founds (lines text) universe (lines rest)
   pub answered : AnsweredPart universe rest more told_before told_after written_before written_after
+
+-- Or the founding text has not ended in what was taken of it, and nothing was written.
+pub record Unfounded (text more : List ℕ) (told_before told_after written_before written_after : Option (List ℕ)) : Type 0 where
+  pub unfinished : IsUnfinished text more
+  pub untold : told_after ≡ told_before
+  pub unwritten : written_after ≡ written_before
 
 -- With status 5 or 7 the answers broke off.
 pub record TriedBroken (text : List ℕ) (told_before told_after written_before written_after : Option (List ℕ)) : Type 0 where

@@ -2,7 +2,7 @@ ghost use Rattle.std.specs.Prelude.{◌≡◌, ◌+◌, ◌^◌, ◌↔◌, ◌�
 ghost use Rattle.std.specs.Io.KnownBytes.{Appends};
 ghost use Rattle.ports.specs.Causes.{Rose};
 ghost use Rattle.request_text.specs.LineReading.{Known};
-ghost use Rattle.command.specs.Trial.{IsStatus, IsTrial, Refused, RefusedBroken, Tried, TriedBroken, TriedPart, bad_founding};
+ghost use Rattle.command.specs.Trial.{IsStatus, IsTrial, Refused, RefusedBroken, Tried, TriedBroken, TriedPart, Unfounded, bad_founding};
 
 use crate::answering::answer_lines;
 use crate::status::{
@@ -62,9 +62,9 @@ fn trial<S: Source, K: Sink, C: Clock>(
         ⊎ (result ≡ TOO_LONG) ⊎ (result ≡ NOT_FOUNDED) }
     ensures done { result ≡ DONE → Known (S.left source.old) (S.left source.new) (λ text more.
         Tried text more (C.told clock.old) (C.told clock.new) (K.written sink.old) (K.written sink.new)) }
-    ensures partly { (result ≡ SOURCE_FAULT) ⊎ (result ≡ TOO_LONG) → ((sink.new ≡ sink.old) × (clock.new ≡ clock.old))
-        ⊎ Known (S.left source.old) (S.left source.new) (λ text more.
-        TriedPart text more (C.told clock.old) (C.told clock.new) (K.written sink.old) (K.written sink.new)) }
+    ensures partly { (result ≡ SOURCE_FAULT) ⊎ (result ≡ TOO_LONG) → Known (S.left source.old) (S.left source.new) (λ text more.
+        Unfounded text more (C.told clock.old) (C.told clock.new) (K.written sink.old) (K.written sink.new)
+        ⊎ TriedPart text more (C.told clock.old) (C.told clock.new) (K.written sink.old) (K.written sink.new)) }
     ensures broken { result ≡ SINK_FAULT → Known (S.left source.old) (S.left source.new) (λ text more.
         TriedBroken text (C.told clock.old) (C.told clock.new) (K.written sink.old) (K.written sink.new)
         ⊎ RefusedBroken text (K.written sink.old) (K.written sink.new)) }
@@ -112,9 +112,9 @@ pub fn run<S: Source, K: Sink, C: Clock>(
     // What was read and written with each status, where the source tells its text and what is left of it.
     ensures done { result ≡ DONE → Known (S.left source.old) (S.left source.new) (λ text more.
         Tried text more (C.told clock.old) (C.told clock.new) (K.written sink.old) (K.written sink.new)) }
-    ensures partly { (result ≡ SOURCE_FAULT) ⊎ (result ≡ TOO_LONG) → ((sink.new ≡ sink.old) × (clock.new ≡ clock.old))
-        ⊎ Known (S.left source.old) (S.left source.new) (λ text more.
-        TriedPart text more (C.told clock.old) (C.told clock.new) (K.written sink.old) (K.written sink.new)) }
+    ensures partly { (result ≡ SOURCE_FAULT) ⊎ (result ≡ TOO_LONG) → Known (S.left source.old) (S.left source.new) (λ text more.
+        Unfounded text more (C.told clock.old) (C.told clock.new) (K.written sink.old) (K.written sink.new)
+        ⊎ TriedPart text more (C.told clock.old) (C.told clock.new) (K.written sink.old) (K.written sink.new)) }
     ensures broken { result ≡ SINK_FAULT → Known (S.left source.old) (S.left source.new) (λ text more.
         TriedBroken text (C.told clock.old) (C.told clock.new) (K.written sink.old) (K.written sink.new)
         ⊎ RefusedBroken text (K.written sink.old) (K.written sink.new)) }

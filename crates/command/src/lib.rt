@@ -6,6 +6,8 @@ mod asking;
 mod commands;
 mod status;
 mod streams;
+#[cfg(test)]
+mod tests;
 
 pub use answering::{Next, answer_lines};
 pub use asking::ask;

@@ -1,19 +1,48 @@
 -- What a text comes to by its first line.
-use Rattle.std.proofs.Common.{◌≡◌, ℕ, ◌<◌, List, [], ◌∷◌, length, ap, ◌∙◌, sym, subst, refl, arith, inl, inr}
+use Rattle.std.proofs.Common.{◌≡◌, ℕ, ◌<◌, ◌⊎◌, List, [], ◌∷◌, ◌++◌, length, append_assoc, append-nil, length-append, ap, ◌∙◌, sym, subst, refl, arith, inl, inr}
 use Rattle.std.specs.Str.Lines.{lines}
-use Rattle.base_text.specs.Parts.{words}
-use Rattle.request_text.specs.LineReading.{Follows}
+use Rattle.base_text.specs.Parts.{Lacks, words}
+use Rattle.std.proofs.lemmas.List.{nil_from_length}
+use Rattle.request_text.proofs.LineHearing.{lines-append, pends}
+use Rattle.request_text.specs.LineReading.{EndsAtFeed, Follows, Sees, kept}
 use Rattle.request_text.specs.declared.line_reader.LineReader.{LineReader}
 use Rattle.founding.specs.Drafts.{begun}
-use Rattle.founding.specs.Founding.{IsBadAt, IsHeaded, IsHeadless}
+use Rattle.founding.specs.Founding.{IsBadAt, IsBeginning, IsHeaded, IsHeadless, IsUnfinished}
 use Rattle.founding.specs.Lines.{heading_words, IsLineOf}
-use Rattle.founding.specs.Reading.{Continues, Reads}
+use Rattle.founding.specs.Reading.{Continues, IsUnfinishedFrom, Reads}
 use Rattle.founding.specs.declared.heading.Heading.{Heading}
 use Rattle.founding.specs.declared.outcome.Founding.{Founding}
 use Rattle.founding.specs.declared.outcome.Founding.TheVariants.{Founded, Bad, Fault, Spent, Memory}
 
 headed_by : (heading : Heading) (reader : LineReader) (left text line : List ℕ) → IsLineOf (heading_words heading) line → (follows : Follows reader left text line) → IsHeaded heading (lines text) (lines follows.rest)
 headed_by heading reader left text line spelled follows = record { first = line; spelled = spelled; parts = follows.first }
+
+-- the lines of a heading and of what was said behind it
+lines_behind : (reader : LineReader) (left text line said other : List ℕ) (follows : Follows reader left text line) → follows.rest ≡ said ++ other → lines (follows.piece ++ said) ≡ line ∷ lines said
+lines_behind reader left text line said other follows parts = either follows.closed
+  where
+    either : EndsAtFeed follows.piece ⊎ (follows.rest ≡ []) → lines (follows.piece ++ said) ≡ line ∷ lines said
+    either (inl feed) = lines-append follows.piece said feed ∙ ap (λ ls. ls ++ lines said) follows.alone
+    either (inr none) =
+        let empty : said ≡ [] = nil_from_length said (let all = length-append said other in let whole = ap length (sym none ∙ parts) in omega (arith, all, whole)) in
+        ap (λ s. lines (follows.piece ++ s)) empty ∙ ap lines (append-nil follows.piece) ∙ follows.alone ∙ ap (λ s. line ∷ lines s) (sym empty)
+
+-- a heading, and the beginning of a founding text behind it
+unfinished_behind : (heading : Heading) (reader : LineReader) (left more text line : List ℕ) → IsLineOf (heading_words heading) line → (follows : Follows reader left text line) → IsUnfinishedFrom (begun heading) follows.rest more → IsUnfinished text more
+unfinished_behind heading reader left more text line spelled follows rest =
+    record {
+      said = follows.piece ++ rest.said;
+      pending = rest.pending;
+      parts = follows.parts ∙ ap (λ r. follows.piece ++ r) rest.parts ∙ sym (append_assoc follows.piece rest.said (rest.pending ++ more));
+      unbroken = rest.unbroken;
+      beginning = subst IsBeginning (sym (lines_behind reader left text line rest.said (rest.pending ++ more) follows rest.parts)) (heading, rest.last, spelled, rest.grows);
+    }
+
+-- nothing was taken whole
+pub unfinished_first : (reader : LineReader) (left text : List ℕ) → Sees reader left text → Lacks 10 (kept reader) → IsUnfinished text left
+unfinished_first reader left text sees free =
+    let rest = pends reader left text sees free in
+    record { said = []; pending = rest.pending; parts = rest.parts; unbroken = rest.unbroken; beginning = tt }
 
 -- a text that begins with a heading comes to what its other lines come to
 pub headed_reads : (heading : Heading) (reader after : LineReader) (left more text line : List ℕ) (outcome : Founding) → IsLineOf (heading_words heading) line → (follows : Follows reader left text line)
@@ -22,8 +51,8 @@ headed_reads heading reader after left more text line (Founded universe) spelled
     (rest, record { heading = heading; later = lines follows.rest; headed = headed_by heading reader left text line spelled follows; grown = grown }, sees)
 headed_reads heading reader after left more text line (Bad n) spelled follows bad =
     inr (record { heading = heading; later = lines follows.rest; headed = headed_by heading reader left text line spelled follows; bad = bad })
-headed_reads heading reader after left more text line Fault spelled follows reads = tt
-headed_reads heading reader after left more text line Spent spelled follows reads = tt
+headed_reads heading reader after left more text line Fault spelled follows reads = unfinished_behind heading reader left more text line spelled follows reads
+headed_reads heading reader after left more text line Spent spelled follows reads = unfinished_behind heading reader left more text line spelled follows reads
 headed_reads heading reader after left more text line Memory spelled follows reads = tt
 
 -- a text whose first line is no heading is bad there

@@ -6,17 +6,14 @@ use Rattle.request_text.specs.LineReading.{Follows}
 use Rattle.request_text.specs.declared.line_reader.LineReader.{LineReader}
 use Rattle.founding.specs.Drafts.{Adds, Drafted}
 use Rattle.founding.specs.Founding.{IsBadNext}
-use Rattle.founding.specs.Turns.{IsTurn, Judges, Passes}
+use Rattle.founding.specs.Turns.{IsTurn, Judges}
 use Rattle.founding.specs.declared.turns.Turn.{Turn}
 use Rattle.founding.specs.declared.turns.Turn.TheVariants.{Grown, Ended, Bad, Fault, Spent, Memory}
 
-pub passed : (reader : LineReader) (left text line : List ℕ) → Follows reader left text line → Passes reader left text line
-passed reader left text line follows = record { rest = follows.rest; first = follows.first; sees = follows.sees }
-
 -- a line that is a text does what it does by itself
 pub turn_text : (old new : Drafted) (reader : LineReader) (left text line : List ℕ) (turn : Turn) → Judges old line new turn → Follows reader left text line → IsTurn old new reader left text turn
-turn_text old new reader left text line Grown adds follows = (line, adds, passed reader left text line follows)
-turn_text old new reader left text line Ended (dot, same) follows = (same, subst (Passes reader left text) dot (passed reader left text line follows))
+turn_text old new reader left text line Grown adds follows = (line, adds, follows)
+turn_text old new reader left text line Ended (dot, same) follows = (same, subst (Follows reader left text) dot follows)
 turn_text old new reader left text line Bad bad follows = subst (IsBadNext old) (sym follows.first) bad
 turn_text old new reader left text line Fault judged follows = absurd judged
 turn_text old new reader left text line Spent judged follows = absurd judged

@@ -1,6 +1,8 @@
 -- What a founding text founds, and which of its lines is the first bad one. Rule: docs/PROTOCOL.md, "The founding
 -- text".
 use Rattle.std.specs.Prelude.{◌≡◌, ◌≢◌, ◌+◌, ℕ, List, [], ◌∷◌, ◌++◌, codes, length, ◌⊎◌, ⊤}
+use Rattle.std.specs.Str.Lines.{lines as text_lines}
+use Rattle.base_text.specs.Parts.{Lacks}
 use Rattle.tick_model.specs.Universe.{Universe}
 use Rattle.founding.specs.Lines.{heading_words, IsLineOf}
 use Rattle.founding.specs.Drafts.{begun, founded, AddsNothing, Drafted, Grows}
@@ -58,3 +60,17 @@ IsHeadless lines = (heading : Heading) (later : List (List ℕ)) → IsHeaded he
 -- input before a `.` or adds nothing to what the lines before it have said.
 abbrev pub IsBadAt : List (List ℕ) → ℕ → Type 0
 IsBadAt lines n = (IsHeadless lines × (n ≡ 1)) ⊎ IsBadLater lines n
+
+-- the lines are the beginning of a founding text: none, or a heading and lines that add something, one after another
+abbrev pub IsBeginning : List (List ℕ) → Type 0
+IsBeginning [] = ⊤
+IsBeginning (first ∷ good) = (heading : Heading) × (last : Drafted) × IsLineOf (heading_words heading) first × Grows (begun heading) good last
+
+-- The whole lines that were taken of a text are the beginning of a founding text without its `.`, and `more` is left in
+-- the source: what was taken is those lines and then a piece without a line feed.
+pub record IsUnfinished (text more : List ℕ) : Type 0 where
+  pub said : List ℕ
+  pub pending : List ℕ
+  pub parts : text ≡ said ++ (pending ++ more)
+  pub unbroken : Lacks 10 pending
+  pub beginning : IsBeginning (text_lines said)

@@ -1,7 +1,8 @@
 -- What the next line does to a draft. No public clause cites this file.
 use Rattle.std.specs.Prelude.{◌≡◌, ◌≢◌, ℕ, List, ◌∷◌, codes, ⊤}
 use Rattle.std.specs.Str.Lines.{lines}
-use Rattle.request_text.specs.LineReading.{Sees}
+use Rattle.base_text.specs.Parts.{Lacks}
+use Rattle.request_text.specs.LineReading.{Follows, Sees, kept}
 use Rattle.request_text.specs.declared.line_reader.LineReader.{LineReader}
 use Rattle.founding.specs.Drafts.{Adds, AddsNothing, Drafted}
 use Rattle.founding.specs.Founding.{IsBadNext}
@@ -17,19 +18,13 @@ Judges old line new Fault = ⊥
 Judges old line new Spent = ⊥
 Judges old line new Memory = ⊤
 
--- the line is the first of the text, and the reader sees the rest
-pub record Passes (reader : LineReader) (left text line : List ℕ) : Type 0 where
-  pub rest : List ℕ
-  pub first : lines text ≡ line ∷ lines rest
-  pub sees : Sees reader left rest
-
 -- what the first line of the text does
 abbrev pub IsTurn : Drafted → Drafted → LineReader → List ℕ → List ℕ → Turn → Type 0
-IsTurn old new reader left text Grown = (line : List ℕ) × Adds old line new × Passes reader left text line
-IsTurn old new reader left text Ended = (new ≡ old) × Passes reader left text (codes ".")
+IsTurn old new reader left text Grown = (line : List ℕ) × Adds old line new × Follows reader left text line
+IsTurn old new reader left text Ended = (new ≡ old) × Follows reader left text (codes ".")
 IsTurn old new reader left text Bad = IsBadNext old (lines text)
-IsTurn old new reader left text Fault = ⊤
-IsTurn old new reader left text Spent = ⊤
+IsTurn old new reader left text Fault = Sees reader left text × Lacks 10 (kept reader)
+IsTurn old new reader left text Spent = Sees reader left text × Lacks 10 (kept reader)
 IsTurn old new reader left text Memory = ⊤
 
 -- a fact where the draft has grown

@@ -2,7 +2,7 @@ use Rattle.std.proofs.Common.{◌≡◌, ◌⊎◌, [], List, ℕ, inl, inr, ref
 use Rattle.std.specs.Str.Lines.{lines}
 use Rattle.request_text.proofs.LineKnowing.{known-map, known-then}
 use Rattle.tick_model.specs.Strict.{universe_of}
-use Rattle.command.specs.Trial.{Refused, RefusedBroken, Tried, TriedBroken, TriedPart}
+use Rattle.command.specs.Trial.{Refused, RefusedBroken, Tried, TriedBroken, TriedPart, Unfounded}
 use Rattle.command.proofs.commands.trial.Goals as goal
 
 pub returns-in-Founded-clause-done : goal.returns-in-Founded-clause-done
@@ -26,10 +26,9 @@ returns-in-Founded-clause-partly g c = λ is.
     let w0 = g.K.Sink.written c.args.sink.now in
     let w1 = g.K.Sink.written c.answer_lines.new.sink in
     let universe = universe_of c.in-Founded.universe in
-    inr (
-    known-then (left c.args.source.now) (left c.read.new.source) (left c.answer_lines.new.source) _ _ (λ x z. TriedPart x z t0 t1 w0 w1)
-    (λ x y z reads answers. let founding = reads x (c.in-Ok.ensures.sees x) in let came = answers founding.0 founding.2 in record { universe = universe; rest = founding.0; founds = founding.1; answered = came })
-    c.in-Founded.ensures.reads (c.answer_lines.ensures.partly is))
+    known-then (left c.args.source.now) (left c.read.new.source) (left c.answer_lines.new.source) _ _ (λ x z. Unfounded x z t0 t1 w0 w1 ⊎ TriedPart x z t0 t1 w0 w1)
+    (λ x y z reads answers. let founding = reads x (c.in-Ok.ensures.sees x) in let came = answers founding.0 founding.2 in inr (record { universe = universe; rest = founding.0; founds = founding.1; answered = came }))
+    c.in-Founded.ensures.reads (c.answer_lines.ensures.partly is)
 
 pub returns-in-Founded-clause-broken :
     goal.returns-in-Founded-clause-broken
@@ -79,3 +78,21 @@ returns-in-Bad-clause-not_founded g c = λ is.
       known-map (left c.args.source.now) (left c.read.new.source) _ (λ x z. Refused x w0 w1)
           (λ x y reads. record { number = c.in-Bad.number; bad = reads x (c.in-Ok.ensures.sees x); wrote = c.refuse.ensures.not_founded is }) c.in-Bad.ensures.reads,
     )
+
+pub returns-in-Fault-clause-partly :
+    goal.returns-in-Fault-clause-partly
+returns-in-Fault-clause-partly g c = λ is.
+    let left = g.S.Source.left in
+    let told = g.C.Clock.told c.args.clock.now in
+    let written = g.K.Sink.written c.args.sink.now in
+    known-map (left c.args.source.now) (left c.read.new.source) _ (λ x y. Unfounded x y told told written written ⊎ TriedPart x y told told written written)
+    (λ x y reads. inl (record { unfinished = reads x (c.in-Ok.ensures.sees x); untold = refl; unwritten = refl })) c.in-Fault.ensures.reads
+
+pub returns-in-Spent-clause-partly :
+    goal.returns-in-Spent-clause-partly
+returns-in-Spent-clause-partly g c = λ is.
+    let left = g.S.Source.left in
+    let told = g.C.Clock.told c.args.clock.now in
+    let written = g.K.Sink.written c.args.sink.now in
+    known-map (left c.args.source.now) (left c.read.new.source) _ (λ x y. Unfounded x y told told written written ⊎ TriedPart x y told told written written)
+    (λ x y reads. inl (record { unfinished = reads x (c.in-Ok.ensures.sees x); untold = refl; unwritten = refl })) c.in-Spent.ensures.reads

@@ -5,8 +5,8 @@ use Rattle.request_text.proofs.LineKnowing.{known-same, known-then}
 use Rattle.tick_model.specs.Strict.{universe_of}
 use Rattle.founding.specs.Founding.{FoundsFrom, IsBadFrom}
 use Rattle.founding.specs.Indexes.{draft_of}
-use Rattle.founding.specs.Reading.{next_number}
-use Rattle.founding.proofs.Growing.{Drawn, drawn-bad, drawn-ended, drawn-line, drawn-start}
+use Rattle.founding.specs.Reading.{IsUnfinishedFrom, next_number}
+use Rattle.founding.proofs.Growing.{Drawn, drawn-bad, drawn-ended, drawn-line, drawn-start, drawn-unfinished}
 use Rattle.founding.proofs.read_text.grow.Goals as goal
 
 pub lines-init : goal.lines-init
@@ -98,3 +98,23 @@ returns-in-Memory-clause-counts g c =
     let left = g.S.Source.left in
     known-then (left c.args.source.now) (left c.lines.source) (left c.take_line.new.source) _ _ (λ x z. taken c.take_line.new.lines + length z ≡ taken c.args.lines.now + length x)
     (λ x y z first second. second ∙ first) c.lines.invariant.counts c.in-Memory.ensures.counts
+
+pub returns-in-Fault-clause-reads : goal.returns-in-Fault-clause-reads
+returns-in-Fault-clause-reads g c =
+    let left = g.S.Source.left in
+    let start = draft_of c.args.draft in
+    let old = draft_of c.lines.draft in
+    let reader = c.lines.lines in
+    let after = c.take_line.new.lines in
+    known-then (left c.args.source.now) (left c.lines.source) (left c.take_line.new.source) _ _ (λ x z. (text : List ℕ) → Sees c.args.lines.now x text → IsUnfinishedFrom start text z)
+    (λ x y z first then text seen. let d = first text seen in drawn-unfinished start old reader after y z text d (then d.rest d.sees)) c.lines.invariant.drawn c.in-Fault.ensures.turns
+
+pub returns-in-Spent-clause-reads : goal.returns-in-Spent-clause-reads
+returns-in-Spent-clause-reads g c =
+    let left = g.S.Source.left in
+    let start = draft_of c.args.draft in
+    let old = draft_of c.lines.draft in
+    let reader = c.lines.lines in
+    let after = c.take_line.new.lines in
+    known-then (left c.args.source.now) (left c.lines.source) (left c.take_line.new.source) _ _ (λ x z. (text : List ℕ) → Sees c.args.lines.now x text → IsUnfinishedFrom start text z)
+    (λ x y z first then text seen. let d = first text seen in drawn-unfinished start old reader after y z text d (then d.rest d.sees)) c.lines.invariant.drawn c.in-Spent.ensures.turns

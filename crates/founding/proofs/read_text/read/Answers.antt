@@ -3,10 +3,10 @@ use Rattle.std.specs.Str.Lines.{lines}
 use Rattle.request_text.specs.LineReading.{Follows, Sees, taken}
 use Rattle.request_text.proofs.LineKnowing.{known-map, known-then}
 use Rattle.founding.specs.Drafts.{Drafted}
-use Rattle.founding.specs.Founding.{IsBadAt}
+use Rattle.founding.specs.Founding.{IsBadAt, IsUnfinished}
 use Rattle.founding.specs.Lines.{heading_words, IsLineOf}
 use Rattle.founding.specs.Reading.{Continues, Reads}
-use Rattle.founding.proofs.Beginning.{empty_bad, headed_reads, headless_bad, other_length, other_words}
+use Rattle.founding.proofs.Beginning.{empty_bad, headed_reads, headless_bad, other_length, other_words, unfinished_first}
 use Rattle.founding.proofs.read_text.read.Goals as goal
 
 pub returns-in-Some-clause-reads : goal.returns-in-Some-clause-reads
@@ -52,3 +52,19 @@ returns-in-Some-clause-counts g c =
     let left = g.S.Source.left in
     known-then (left c.args.source.now) (left c.next.new.src) (left c.grow.new.source) _ _ (λ x z. taken c.grow.new.lines + length z ≡ taken c.args.lines.now + length x)
     (λ x y z first second. second ∙ first) c.in-Text.ensures.counts c.grow.ensures.counts
+
+pub returns-in-Fault-clause-reads : goal.returns-in-Fault-clause-reads
+returns-in-Fault-clause-reads g c =
+    let left = g.S.Source.left in
+    let reader = c.next.new.self in
+    let free = c.in-Fault.ensures.leaves in
+    known-map (left c.args.source.now) (left c.next.new.src) _ (λ x y. (text : List ℕ) → Sees c.args.lines.now x text → IsUnfinished text y)
+    (λ x y stays text seen. unfinished_first reader y text (stays text seen) free.2) c.in-Fault.ensures.tells
+
+pub returns-in-Spent-clause-reads : goal.returns-in-Spent-clause-reads
+returns-in-Spent-clause-reads g c =
+    let left = g.S.Source.left in
+    let reader = c.next.new.self in
+    let free = c.in-Spent.ensures.leaves in
+    known-map (left c.args.source.now) (left c.next.new.src) _ (λ x y. (text : List ℕ) → Sees c.args.lines.now x text → IsUnfinished text y)
+    (λ x y stays text seen. unfinished_first reader y text (stays text seen) free.3) c.in-Spent.ensures.tells

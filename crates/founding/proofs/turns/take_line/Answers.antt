@@ -1,7 +1,8 @@
 use Rattle.std.proofs.Common.{ℕ, List, sym, subst}
-use Rattle.request_text.specs.LineReading.{Follows, Sees}
+use Rattle.request_text.specs.LineReading.{Follows, Sees, kept}
 use Rattle.request_text.proofs.LineKnowing.{known-map}
 use Rattle.std.specs.Str.Lines.{lines}
+use Rattle.base_text.specs.Parts.{Lacks}
 use Rattle.founding.specs.Founding.{IsBadNext}
 use Rattle.founding.specs.Indexes.{draft_of}
 use Rattle.founding.specs.Turns.{IsTurn}
@@ -34,3 +35,19 @@ returns-in-End-clause-turns g c =
     known-map (left c.args.source.now) (left c.next.new.src) _
     (λ before after. (text : List ℕ) → Sees c.args.lines.now before text → IsBadNext old (lines text))
     (λ before after tells text seen. end_bad old text (tells text seen).0) c.in-End.ensures.tells
+
+pub returns-in-Fault-clause-turns : goal.returns-in-Fault-clause-turns
+returns-in-Fault-clause-turns g c =
+    let left = g.S.Source.left in
+    let reader = c.next.new.self in
+    let free = c.in-Fault.ensures.leaves in
+    known-map (left c.args.source.now) (left c.next.new.src) _ (λ before after. (text : List ℕ) → Sees c.args.lines.now before text → Sees reader after text × Lacks 10 (kept reader))
+    (λ before after stays text seen. (stays text seen, free.2)) c.in-Fault.ensures.tells
+
+pub returns-in-Spent-clause-turns : goal.returns-in-Spent-clause-turns
+returns-in-Spent-clause-turns g c =
+    let left = g.S.Source.left in
+    let reader = c.next.new.self in
+    let free = c.in-Spent.ensures.leaves in
+    known-map (left c.args.source.now) (left c.next.new.src) _ (λ before after. (text : List ℕ) → Sees c.args.lines.now before text → Sees reader after text × Lacks 10 (kept reader))
+    (λ before after stays text seen. (stays text seen, free.3)) c.in-Spent.ensures.tells
