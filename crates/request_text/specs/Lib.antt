@@ -1,6 +1,10 @@
+pub mod Feeds
 pub mod Flights
 pub mod Forms
 pub mod Grammar
+pub mod LineReading
+pub mod LineSteps
 pub mod Ships
 pub mod Timing
+pub mod Windows
 pub mod Words

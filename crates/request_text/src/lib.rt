@@ -8,6 +8,7 @@ mod entry;
 mod form;
 mod forms;
 mod laws;
+mod line_reader;
 mod request;
 mod ship_counts;
 
@@ -16,5 +17,9 @@ pub use coordinates::{coord, player, system};
 pub use entry::Entry;
 pub use form::Form;
 pub use laws::spell_once;
+pub use line_reader::{LONGEST_LINE, Line, LineReader, MOST_TAKEN};
 pub use request::Request;
 pub use ship_counts::ships;
+
+#[cfg(test)]
+mod line_reader_tests;
