@@ -1,0 +1,5 @@
+pub mod Lines
+pub mod Drafts
+pub mod Founding
+pub mod Indexes
+pub mod Adding

@@ -1,0 +1,11 @@
+//! The founding text: its lines, of which each is judged by the lines before it, and the universe that they found.
+#![tactic(auto)]
+
+mod draft;
+mod heading;
+mod new_planet;
+mod read_lines;
+
+pub use draft::{Added, Draft, MOST_OWNED, MOST_PLANETS, MOST_PLAYERS};
+pub use heading::Heading;
+pub use new_planet::{FIRST_UNITS, NewPlanet};
