@@ -1,3 +1,6 @@
+pub mod Beginning
 pub mod Comings
+pub mod Growing
 pub mod Indexing
+pub mod Turning
 pub mod Wording

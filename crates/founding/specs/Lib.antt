@@ -3,3 +3,5 @@ pub mod Drafts
 pub mod Founding
 pub mod Indexes
 pub mod Adding
+pub mod Turns
+pub mod Reading

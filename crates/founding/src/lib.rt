@@ -4,8 +4,13 @@
 mod draft;
 mod heading;
 mod new_planet;
+mod outcome;
 mod read_lines;
+mod read_text;
+mod turns;
 
 pub use draft::{Added, Draft, MOST_OWNED, MOST_PLANETS, MOST_PLAYERS};
 pub use heading::Heading;
 pub use new_planet::{FIRST_UNITS, NewPlanet};
+pub use outcome::Founding;
+pub use read_text::read;
