@@ -160,13 +160,10 @@ impl Draft {
         if self.planets.len() >= MOST_PLANETS || self.places.contains(&planet.at) {
             return None;
         }
-        let Some(owned) = self.owned.get(&planet.owner) else {
-            return None;
-        };
-        if *owned < MOST_OWNED {
-            Some(*owned)
-        } else {
-            None
+        match self.owned.get(&planet.owner) {
+            Some(owned) if *owned < MOST_OWNED => Some(*owned),
+            Some(_) => None,
+            None => None,
         }
     }
 }

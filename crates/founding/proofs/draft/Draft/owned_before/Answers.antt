@@ -5,8 +5,8 @@ use Rattle.founding.specs.Indexes.{draft_of, owned_of}
 use Rattle.founding.proofs.Indexing.{owned_named}
 use Rattle.founding.proofs.draft.Draft.owned_before.Goals as goal
 
-pub returns-then-owned-lt-MOST_OWNED : goal.returns-then-owned-lt-MOST_OWNED
-returns-then-owned-lt-MOST_OWNED c =
+pub returns-in-Some : goal.returns-in-Some
+returns-in-Some c =
     let draft = draft_of c.args.self.now in
     let owner = c.args.planet.owner in
     let found : Some c.in-Some.owned.now ≡ owned_of draft.players draft.planets owner = c.in-Some.ensures.value ∙ c.requires.owned owner in

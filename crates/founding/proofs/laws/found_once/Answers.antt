@@ -1,0 +1,5 @@
+use Rattle.founding.proofs.Once.{bad_once, founds_once, never_both}
+use Rattle.founding.proofs.laws.found_once.Goals as goal
+
+pub returns : goal.returns
+returns c = record { universes = founds_once; places = bad_once; apart = never_both }

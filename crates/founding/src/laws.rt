@@ -1,0 +1,13 @@
+ghost use Rattle.std.specs.Prelude.{◌≡◌, ℕ, List};
+ghost use Rattle.tick_model.specs.Universe.{Universe};
+ghost use Rattle.founding.specs.Founding.{Founds, IsBadAt};
+
+/// Lines found at most one universe, and leave one script; they have at most one first bad line; and lines that found
+/// a universe have none. It does nothing: the laws are its contract.
+pub fn found_once()
+    ensures universes { (lines : List (List ℕ)) (a b : Universe) (script other : List (List ℕ))
+        → Founds lines a script → Founds lines b other → (a ≡ b) × (script ≡ other) }
+    ensures places { (lines : List (List ℕ)) (m n : ℕ) → IsBadAt lines m → IsBadAt lines n → m ≡ n }
+    ensures apart { (lines : List (List ℕ)) (universe : Universe) (script : List (List ℕ)) (n : ℕ)
+        → Founds lines universe script → IsBadAt lines n → ⊥ }
+{}
