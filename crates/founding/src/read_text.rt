@@ -1,6 +1,6 @@
 ghost use Rattle.std.specs.Prelude.{◌≡◌, ◌+◌, ◌≤◌, ◌<◌, ◌^◌, List, ℕ, length};
 ghost use Rattle.ports.specs.Causes.{Rose};
-ghost use Rattle.request_text.specs.LineReading.{IsSpent, Known, Sees};
+ghost use Rattle.request_text.specs.LineReading.{ahead, IsSpent, Known, Sees};
 ghost use Rattle.founding.specs.Indexes.{draft_of, IsIndexed};
 ghost use Rattle.founding.specs.Reading.{Continues, IfFounded, OnFault, OnSpent, Reads};
 
@@ -17,6 +17,7 @@ pub fn read<S: Source>(alloc: Global, lines: &mut LineReader, source: &mut S) ->
     ensures reads { Known (S.left source.old) (S.left source.new) (λ left more. (text : List ℕ) → Sees lines.old left text
         → Reads text lines.new more result) }
     ensures begins { IfFounded result (λ universe. (universe.number ≡ 0) × (universe.moment < 2 ^ 40)) }
+    ensures ahead { ahead lines.new ≤ ahead lines.old }
     ensures faults { S.faults source.old ≤ S.faults source.new }
     ensures cause { OnFault result (Rose (S.faults source.old) (S.faults source.new)) }
     ensures spent { OnSpent result (IsSpent lines.new) }
@@ -39,6 +40,7 @@ fn grow<S: Source>(mut draft: Draft, lines: &mut LineReader, source: &mut S) -> 
     ensures reads { Known (S.left source.old) (S.left source.new) (λ left more. (text : List ℕ) → Sees lines.old left text
         → Continues (draft_of draft) text lines.new more result) }
     ensures begins { IfFounded result (λ universe. (universe.number ≡ 0) × (universe.moment < 2 ^ 40)) }
+    ensures ahead { ahead lines.new ≤ ahead lines.old }
     ensures faults { S.faults source.old ≤ S.faults source.new }
     ensures cause { OnFault result (Rose (S.faults source.old) (S.faults source.new)) }
     ensures spent { OnSpent result (IsSpent lines.new) }

@@ -33,6 +33,7 @@ pub fn take_line<S: Source>(draft: &mut Draft, lines: &mut LineReader, source: &
         → IsTurn (draft_of draft.old) (draft_of draft.new) lines.new more text result) }
     ensures indexed { OnGrown result (IsIndexed draft.new) }
     ensures nears { OnGrown result (ahead lines.new < ahead lines.old) }
+    ensures ahead { ahead lines.new ≤ ahead lines.old }
     ensures faults { S.faults source.old ≤ S.faults source.new }
     ensures cause { OnFault result (Rose (S.faults source.old) (S.faults source.new)) }
     ensures spent { OnSpent result (IsSpent lines.new) }

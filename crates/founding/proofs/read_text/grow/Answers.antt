@@ -13,6 +13,7 @@ pub lines-init : goal.lines-init
 lines-init g c = record {
   indexed = c.requires;
   drawn = known-same (g.S.Source.left c.args.source.now) _ (λ left text seen. drawn-start (draft_of c.args.draft) c.args.lines.now left text seen);
+  nearer = omega arith;
   faults = omega arith;
 }
 
@@ -31,6 +32,7 @@ lines-preserved g c =
       drawn =
           known-then (left c.args.source.now) (left c.lines.source) (left c.take_line.new.source) _ _ (λ x z. (text : List ℕ) → Sees c.args.lines.now x text → Drawn start new after z text)
           (λ x y z first then text seen. let d = first text seen in let t = then d.rest d.sees in drawn-line start old new reader after y z text t.0 d t.1 t.2) before.drawn turn.turns;
+      nearer = omega (arith, before.nearer, turn.ahead);
       faults = omega (arith, before.faults, turn.faults);
     }
 

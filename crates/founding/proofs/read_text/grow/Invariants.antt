@@ -11,6 +11,7 @@ invariant-lines g l =
     record {
       indexed : IsIndexed l.draft;
       drawn : Known (left l.fn.source) (left l.source) (λ before after. (text : List ℕ) → Sees l.fn.lines before text → Drawn (draft_of l.fn.draft) (draft_of l.draft) l.lines after text);
+      nearer : ahead l.lines ≤ ahead l.fn.lines;
       faults : g.S.Source.faults l.fn.source ≤ g.S.Source.faults l.source;
     }
 
