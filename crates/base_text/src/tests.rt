@@ -1,4 +1,4 @@
-use crate::{Bytes, cut, next_line, number, signed_number, word};
+use crate::{Bytes, Parts, cut, next_line, number, signed_number, word};
 use std::test::Fail;
 
 // What `cut` gives, with its parts or none.
@@ -35,6 +35,29 @@ fn counts_empty_words_between_spaces(rt: HostRuntime) {
     ];
     for (line, k, want) in cases {
         assert!(rt; word(line, k) == want);
+    }
+}
+
+#[test]
+fn parts_are_taken_one_by_one_and_stay_while_peeked_at(rt: HostRuntime) {
+    let cases: [(&[u8], [Option<&[u8]>; 4]); 6] = [
+        (b"a,bc,d", [Some(b"a"), Some(b"bc"), Some(b"d"), None]),
+        (b"a,,d", [Some(b"a"), Some(b""), Some(b"d"), None]),
+        (b",a", [Some(b""), Some(b"a"), None, None]),
+        (b"a,", [Some(b"a"), Some(b""), None, None]),
+        (b"a b", [Some(b"a b"), None, None, None]),
+        (b"", [Some(b""), None, None, None]),
+    ];
+    for (text, wants) in cases {
+        let mut parts = Parts::new(text, b',');
+        for want in wants {
+            assert!(rt; parts.is_at_end() == want.is_none());
+            assert!(rt; parts.peek() == want);
+            assert!(rt; parts.peek() == want);
+            assert!(rt; parts.next() == want);
+        }
+        assert!(rt; parts.is_at_end());
+        assert!(rt; parts.next() == None);
     }
 }
 

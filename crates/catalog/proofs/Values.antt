@@ -72,5 +72,5 @@ amounts_is a b metal crystal deuterium =
 pub ships_is : (a b : Ships) → a.n ≡ b.n → a ≡ b
 ships_is a b same =
     let at = λ (n : List ℕ). (kinds : length n ≡ 13) (within : IsTrue (list_all (λ count. nat_le count UNITS) n)) (some : IsTrue (list_any (λ count. nat_lt 0 count) n))
-        → a ≡ record a { n = n; kinds = kinds; within = within; some = some } in
+    → a ≡ record a { n = n; kinds = kinds; within = within; some = some } in
     subst at same (λ kinds within some i. record a { kinds = ℕ_set (length a.n) 13 a.kinds kinds i; within = test_once (list_all (λ count. nat_le count UNITS) a.n) a.within within i; some = test_once (list_any (λ count. nat_lt 0 count) a.n) a.some some i }) b.kinds b.within b.some

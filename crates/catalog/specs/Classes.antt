@@ -1,4 +1,4 @@
--- The classes of kinds, by their numbers. Rule: docs/RULES.md, "Kinds".
+-- The classes of kinds, by their numbers. Rule: docs/RULES.md, "Kinds and costs".
 use Rattle.std.specs.Prelude.{Bool, nat_le, ◌==◌, ◌&&◌, ◌||◌}
 use Rattle.catalog.specs.Kinds.{kind_number}
 use Rattle.catalog.specs.declared.kind.Kind.{Kind}

@@ -34,3 +34,5 @@ pub use table_laws::{
 
 #[cfg(test)]
 mod table_tests;
+#[cfg(test)]
+mod tests;

@@ -1,23 +1,7 @@
 -- Bytes that come and go in pieces.
-use Rattle.std.proofs.Common.{◌≡◌, ℕ, ◌+◌, ◌-◌, ◌≤◌, List, ◌++◌, length, take, drop, length-append, arith, ap, ◌∙◌, sym, append_assoc}
-use Rattle.std.proofs.lemmas.List.{take_all, take-append-le, take-append-drop, length-take-le, length-drop}
-use Rattle.std.proofs.Math.Seq.{take-append-add, take-append_seam}
-use borrow.Rule.Slice.PartMut.{put_mid, post_of}
-
--- a buffer that was filled up to a place holds what was there and what a read put behind it
-pub filled_more : (a n k : ℕ) (xs ys : List ℕ) → a ≤ length xs → n ≤ length ys → take (a + n) (put_mid a k xs ys) ≡ take a xs ++ take n ys
-filled_more a n k xs ys within few =
-    let front : length (take a xs) ≡ a = length-take-le a xs within in
-    ap (λ m. take (m + n) (take a xs ++ (ys ++ post_of a k xs))) (sym front) ∙ take-append-add (take a xs) (ys ++ post_of a k xs) n
-    ∙ ap (λ zs. take a xs ++ zs) (take-append-le n ys (post_of a k xs) few)
-
--- it has room for both
-pub filled_within : (a n k : ℕ) (xs ys : List ℕ) → a ≤ length xs → n ≤ length ys → a + n ≤ length (put_mid a k xs ys)
-filled_within a n k xs ys within few =
-    let front : length (take a xs) ≡ a = length-take-le a xs within in
-    let whole = length-append (take a xs) (ys ++ post_of a k xs) in
-    let back = length-append ys (post_of a k xs) in
-    omega (arith, front, whole, back)
+use Rattle.std.proofs.Common.{◌≡◌, ℕ, ◌+◌, ◌-◌, ◌≤◌, ◌<◌, List, [], ◌∷◌, get_or, ◌++◌, length, take, drop, length-append, arith, ap, ◌∙◌, sym, append_assoc}
+use Rattle.std.proofs.lemmas.List.{take_all, take-append-drop, length-drop}
+use Rattle.std.proofs.Math.Seq.{take-append_seam}
 
 enough : (rest : List ℕ) (n : ℕ) → length (drop n rest) ≤ length rest - n
 enough rest n = let left = length-drop n rest in omega (arith, left)
@@ -30,3 +14,9 @@ written_more bytes gone rest n parts =
 -- what was written is a front of the bytes
 pub written_front : (bytes gone rest : List ℕ) → bytes ≡ gone ++ rest → take (length gone) bytes ≡ gone
 written_front bytes gone rest parts = ap (take (length gone)) parts ∙ take-append_seam gone rest
+
+-- a list of one element is that element
+pub one_item : {A : Type 0} (xs : List A) (x : A) → 1 ≤ length xs → length xs < 2 → x ≡ get_or xs 0 x → xs ≡ x ∷ []
+one_item [] x least most is = absurd (omega (arith, least))
+one_item (y ∷ []) x least most is = ap (λ z. z ∷ []) (sym is)
+one_item (y ∷ z ∷ more) x least most is = absurd (omega (arith, most))

@@ -1,3 +1,2 @@
-pub mod Founding
-pub mod Streams
+pub mod Answers
 pub mod Trial

@@ -1,98 +1,53 @@
--- What `trial` does. Statuses: docs/PROTOCOL.md, "Statuses".
-use Rattle.std.specs.Prelude.{◌≡◌, ℕ, ◌<◌, ◌⊎◌, List, [], ◌∷◌, ◌++◌, length, take, codes, Option}
-use Rattle.std.specs.Io.KnownBytes.{Appends, Consumes, IsAtEnd}
-use Rattle.request_text.specs.Grammar.{IsOutside, Spells}
-use Rattle.request_text.specs.declared.call.Call.{Call}
-use Rattle.request_text.specs.declared.entry.Entry.{Entry}
-use Rattle.tick_model.specs.Asking.{Asks}
-use Rattle.tick_model.specs.History.{IsLegal}
-use Rattle.tick_model.specs.Reply.{text}
-use Rattle.tick_model.specs.Talk.{Talk, bad_line}
+-- What `trial` does with the text of its source. Statuses: docs/PROTOCOL.md, "Statuses".
+use Rattle.std.specs.Prelude.{◌≡◌, ℕ, ◌⊎◌, List, [], ◌∷◌, take, codes, Option}
+use Rattle.std.specs.Fmt.{decimal}
+use Rattle.std.specs.Io.KnownBytes.{Appends}
+use Rattle.std.specs.Str.Lines.{lines}
+use Rattle.founding.specs.Founding.{Founds, IsBadAt}
+use Rattle.tick_model.specs.Reply.{line}
 use Rattle.tick_model.specs.Universe.{Universe}
-use Rattle.tick_model.specs.declared.reply.Reply.{Reply}
-use Rattle.command.specs.Founding.{Founds, IsNoFounding, founded}
-use Rattle.command.specs.declared.founding.Founding.{Founding}
+use Rattle.command.specs.Answers.{Answered, AnsweredPart, BrokeOff}
 use Rattle.command.specs.declared.status.TheConstants.{DONE, NOT_A_COMMAND, SOURCE_FAULT, SINK_FAULT, NO_MEMORY, TOO_LONG, NOT_FOUNDED}
-use Rattle.command.specs.declared.streams.TheConstants.{MOST}
 
--- A line was answered by asking the universe: the line spells a call, the call was asked, and the bytes are the
--- text of its reply.
-pub record Called (old new : Universe) (line bytes : List ℕ) : Type 0 where
-  pub call : Call
-  pub answer : Reply
-  pub spells : Spells line call
-  pub asked : Asks old new call answer
-  pub told : bytes ≡ text answer
+-- With status 0 the text was read to its end, and it begins with a founding text; all lines after that were answered from
+-- the universe that it founds.
+pub record Tried (text more : List ℕ) (told_before told_after written_before written_after : Option (List ℕ)) : Type 0 where
+  pub universe : Universe
+  pub rest : List ℕ
+  pub founds : Founds (lines text) universe (lines rest)
+  pub ended : more ≡ []
+  pub answered : Answered universe (lines rest) told_before told_after written_before written_after
 
--- One line was answered: a line of no call by `bad 1` with the universe as it was, any other by asking.
-abbrev pub Turns : Universe → Universe → List ℕ → List ℕ → Type 0
-Turns old new line bytes = (IsOutside line × (new ≡ old) × (bytes ≡ bad_line)) ⊎ Called old new line bytes
+-- With status 4 or 9 the same, but of the lines that were taken whole.
+pub record TriedPart (text more : List ℕ) (told_before told_after written_before written_after : Option (List ℕ)) : Type 0 where
+  pub universe : Universe
+  pub rest : List ℕ
+  pub founds : Founds (lines text) universe (lines rest)
+  pub answered : AnsweredPart universe rest more told_before told_after written_before written_after
 
--- All lines were answered from a base on: what was written is the talk of a legal history.
-pub record Answered (base : Universe) (script : List (List ℕ)) (written_before written_after : Option (List ℕ)) : Type 0 where
-  pub history : List Entry
-  pub bytes : List ℕ
-  pub legal : IsLegal base history
-  pub talk : Talk base [] history script bytes
-  pub wrote : Appends written_before written_after bytes
+-- With status 5 or 7 the answers broke off.
+pub record TriedBroken (text : List ℕ) (told_before told_after written_before written_after : Option (List ℕ)) : Type 0 where
+  pub universe : Universe
+  pub rest : List ℕ
+  pub founds : Founds (lines text) universe (lines rest)
+  pub broke_off : BrokeOff universe (lines rest) told_before told_after written_before written_after
 
--- The answers broke off: what was written is a front of the talk of the lines that were taken.
-pub record BrokeOff (base : Universe) (script : List (List ℕ)) (written_before written_after : Option (List ℕ)) : Type 0 where
-  pub taken : List (List ℕ)
-  pub rest : List (List ℕ)
-  pub parts : script ≡ taken ++ rest
-  pub history : List Entry
-  pub bytes : List ℕ
-  pub legal : IsLegal base history
-  pub talk : Talk base [] history taken bytes
+-- the line that names the first bad line of a founding text
+abbrev pub bad_founding : ℕ → List ℕ
+bad_founding number = line (codes "bad" ∷ codes "founding" ∷ decimal number ∷ [])
+
+-- With status 11 the text begins with no founding text, and the first bad line was named.
+pub record Refused (text : List ℕ) (written_before written_after : Option (List ℕ)) : Type 0 where
+  pub number : ℕ
+  pub bad : IsBadAt (lines text) number
+  pub wrote : Appends written_before written_after (bad_founding number)
+
+-- the same, but the sink failed
+pub record RefusedBroken (text : List ℕ) (written_before written_after : Option (List ℕ)) : Type 0 where
+  pub number : ℕ
+  pub bad : IsBadAt (lines text) number
   pub count : ℕ
-  pub wrote : Appends written_before written_after (take count bytes)
-
--- An input was tried: it begins with a founding text, and all lines after that were answered from the universe that
--- it founds.
-pub record Tried (input : List ℕ) (written_before written_after : Option (List ℕ)) : Type 0 where
-  pub founding : Founding
-  pub script : List (List ℕ)
-  pub founds : Founds input founding script
-  pub answered : Answered (founded founding) script written_before written_after
-
--- the same, but the answers broke off
-pub record TriedInPart (input : List ℕ) (written_before written_after : Option (List ℕ)) : Type 0 where
-  pub founding : Founding
-  pub script : List (List ℕ)
-  pub founds : Founds input founding script
-  pub broke_off : BrokeOff (founded founding) script written_before written_after
-
--- The whole input was read: these bytes, fewer than MOST of them, and then the end.
-pub record ReadWhole (left_before left_after : Option (List ℕ)) (input : List ℕ) : Type 0 where
-  pub short : length input < MOST
-  pub read : Consumes left_before left_after input
-  pub ended : IsAtEnd left_after
-
--- With status 0 the source was read to its end, its bytes begin with a founding text, and what was written are the
--- answers to the lines after it.
-pub record IsDone (left_before left_after written_before written_after : Option (List ℕ)) : Type 0 where
-  pub input : List ℕ
-  pub whole : ReadWhole left_before left_after input
-  pub tried : Tried input written_before written_after
-
--- With status 5 the source was read to its end too, and what was written is a front of the answers.
-pub record IsBroken (left_before left_after written_before written_after : Option (List ℕ)) : Type 0 where
-  pub input : List ℕ
-  pub whole : ReadWhole left_before left_after input
-  pub tried : TriedInPart input written_before written_after
-
--- With status 9 MOST bytes were read, and no end was seen.
-pub record IsTooLong (left_before left_after : Option (List ℕ)) : Type 0 where
-  pub input : List ℕ
-  pub most : length input ≡ MOST
-  pub read : Consumes left_before left_after input
-
--- With status 11 the source was read to its end, and its bytes don't begin with a founding text.
-pub record IsNotFounded (left_before left_after : Option (List ℕ)) : Type 0 where
-  pub input : List ℕ
-  pub whole : ReadWhole left_before left_after input
-  pub unfounded : IsNoFounding input
+  pub wrote : Appends written_before written_after (take count (bad_founding number))
 
 -- the words of the one command
 abbrev pub IsTrial : List (List ℕ) → Type 0

@@ -1,14 +1,17 @@
 ghost use Rattle.std.specs.Prelude.{◌≡◌, ◌+◌, ◌≤◌, ◌<◌, ◌^◌, map, find, IfOk, OnErr, option_map};
 ghost use Rattle.base_ids.specs.Cells.{same_coord};
 ghost use Rattle.tick_model.specs.Asking.{Asks, brought};
+ghost use Rattle.tick_model.specs.Step.{IsBuilt};
 ghost use Rattle.tick_model.specs.Strict.{fields_of, universe_of};
 ghost use Rattle.tick_model.specs.Second.{planet_after};
 
-use base_ids::Coord;
+use base_ids::{Coord, Player};
 use rates::stocks_after;
-use request_text::Call;
+use request_text::Request;
 use std::alloc::{AllocError, Global};
-use tick_model::{Planet, Reply, Rules, StrictUniverse, has_player, planet_at, show_planet};
+use tick_model::{
+    Planet, Reply, Rules, StrictUniverse, has_player, place_of, planet_at, show_planet,
+};
 
 /// A planet so many seconds later, in constant time.
 #[tactic(auto, using(tick_model::proofs::Standing::planets_later))]
@@ -55,22 +58,30 @@ fn planet_later(planets: &[Planet], at: Coord, rules: Rules, seconds: u64) -> Op
     }
 }
 
-/// Asks the universe: it is brought to the moment of the call, and answers there.
+/// Asks the universe: it is brought to the moment of the request, and answers there. The reading is a second below 2^40.
 ///
 /// No loop over the seconds is made. It fails only where memory runs out, and the universe then stays as it was.
-pub fn ask(alloc: Global, universe: &mut StrictUniverse, call: Call) -> Result<Reply, AllocError>
-    requires { universe.old.number < 2 ^ 40 }
-    ensures ok { IfOk result (Asks (universe_of universe.old) (universe_of universe.new) call) }
+pub fn ask(
+    alloc: Global,
+    universe: &mut StrictUniverse,
+    player: Player,
+    req: &Request,
+    reading: u64,
+) -> Result<Reply, AllocError>
+    requires built { IsBuilt req.now }
+    requires number { universe.old.number < 2 ^ 40 }
+    requires reading { reading < 2 ^ 40 }
+    ensures ok { IfOk result (Asks (universe_of universe.old) (universe_of universe.new) player req.now reading) }
     ensures err { OnErr result (universe_of universe.new ≡ universe_of universe.old) }
 {
     let number = universe.number + 1;
-    let moment = call.reading.max(universe.moment);
+    let moment = reading.max(universe.moment);
     let rules = universe.rules;
     let seconds = moment - universe.moment;
-    let at = call.req.place();
-    let is_player = has_player(&universe.players, call.player);
+    let at = place_of(req);
+    let is_player = has_player(&universe.players, player);
     let planet = planet_later(&universe.planets, at, rules, seconds);
-    let acted = show_planet(alloc, rules, call.player, is_player, planet)?;
+    let acted = show_planet(alloc, rules, player, is_player, planet)?;
     advance(universe, moment);
     universe.number = number;
     Ok(Reply {

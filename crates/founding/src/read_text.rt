@@ -1,6 +1,6 @@
 ghost use Rattle.std.specs.Prelude.{◌≡◌, ◌+◌, ◌≤◌, ◌<◌, ◌^◌, List, ℕ, length};
 ghost use Rattle.ports.specs.Causes.{Rose};
-ghost use Rattle.request_text.specs.LineReading.{ahead, IsSpent, Known, Sees};
+ghost use Rattle.request_text.specs.LineReading.{ahead, taken, IsSpent, Known, Sees};
 ghost use Rattle.founding.specs.Indexes.{draft_of, IsIndexed};
 ghost use Rattle.founding.specs.Reading.{Continues, IfFounded, OnFault, OnSpent, Reads};
 
@@ -18,6 +18,8 @@ pub fn read<S: Source>(alloc: Global, lines: &mut LineReader, source: &mut S) ->
         → Reads text lines.new more result) }
     ensures begins { IfFounded result (λ universe. (universe.number ≡ 0) × (universe.moment < 2 ^ 40)) }
     ensures ahead { ahead lines.new ≤ ahead lines.old }
+    ensures counts { Known (S.left source.old) (S.left source.new)
+        (λ left more. taken lines.new + length more ≡ taken lines.old + length left) }
     ensures faults { S.faults source.old ≤ S.faults source.new }
     ensures cause { OnFault result (Rose (S.faults source.old) (S.faults source.new)) }
     ensures spent { OnSpent result (IsSpent lines.new) }
@@ -41,6 +43,8 @@ fn grow<S: Source>(mut draft: Draft, lines: &mut LineReader, source: &mut S) -> 
         → Continues (draft_of draft) text lines.new more result) }
     ensures begins { IfFounded result (λ universe. (universe.number ≡ 0) × (universe.moment < 2 ^ 40)) }
     ensures ahead { ahead lines.new ≤ ahead lines.old }
+    ensures counts { Known (S.left source.old) (S.left source.new)
+        (λ left more. taken lines.new + length more ≡ taken lines.old + length left) }
     ensures faults { S.faults source.old ≤ S.faults source.new }
     ensures cause { OnFault result (Rose (S.faults source.old) (S.faults source.new)) }
     ensures spent { OnSpent result (IsSpent lines.new) }

@@ -1,6 +1,6 @@
-ghost use Rattle.std.specs.Prelude.{◌≡◌, ◌≤◌, ◌<◌, List, ℕ};
+ghost use Rattle.std.specs.Prelude.{◌≡◌, ◌+◌, ◌≤◌, ◌<◌, List, ℕ, length};
 ghost use Rattle.ports.specs.Causes.{Rose};
-ghost use Rattle.request_text.specs.LineReading.{ahead, IsSpent, Known, Sees};
+ghost use Rattle.request_text.specs.LineReading.{ahead, taken, IsSpent, Known, Sees};
 ghost use Rattle.founding.specs.Indexes.{draft_of, IsIndexed};
 ghost use Rattle.founding.specs.Turns.{IsTurn, Judges, OnFault, OnGrown, OnSpent};
 
@@ -34,6 +34,8 @@ pub fn take_line<S: Source>(draft: &mut Draft, lines: &mut LineReader, source: &
     ensures indexed { OnGrown result (IsIndexed draft.new) }
     ensures nears { OnGrown result (ahead lines.new < ahead lines.old) }
     ensures ahead { ahead lines.new ≤ ahead lines.old }
+    ensures counts { Known (S.left source.old) (S.left source.new)
+        (λ left more. taken lines.new + length more ≡ taken lines.old + length left) }
     ensures faults { S.faults source.old ≤ S.faults source.new }
     ensures cause { OnFault result (Rose (S.faults source.old) (S.faults source.new)) }
     ensures spent { OnSpent result (IsSpent lines.new) }

@@ -1,8 +1,10 @@
 -- What one more reading does to the readings that a clock in memory has told.
 use Rattle.std.specs.Prelude.{◌≡◌, ℕ, suc, ◌+◌, ◌-◌, ◌^◌, ◌≤◌, min, Bool, true, false, nat_eq, List, [], ◌∷◌, ◌++◌, None, Some, IfSome, refl, if◌then◌else◌}
-use Rattle.std.proofs.Common.{arith, ap, sym, subst}
+use Rattle.std.proofs.Common.{arith, ap, sym, subst, ◌∙◌, append_assoc}
 use Rattle.std.proofs.lemmas.Bool.Decides.{nat_tests}
-use Rattle.ports.specs.Readings.{TellsReading, reading_at, first_readings, readings_told}
+use Rattle.std.specs.declared.option.Option.{Option}
+use Rattle.std.proofs.lemmas.List.{append-nil}
+use Rattle.ports.specs.Readings.{TellsReading, TellsReadings, reading_at, first_readings, readings_told}
 
 -- a list that is known after was known before, and has gained the reading
 known-after : (old now : Bool) (xs ys : List ℕ) (reading : ℕ) → (now ≡ false → old ≡ false) → (now ≡ false → ys ≡ xs ++ reading ∷ []) → TellsReading (if old then None else Some xs) (if now then None else Some ys) reading
@@ -27,3 +29,24 @@ told-first readings n e = let P : ℕ → Type 0 = λ k. IfSome (readings_told r
 
 -- the lemmas of a clock in memory
 pub ruleset tellings = (tells-next, told-first)
+
+-- no reading more
+pub tells-none : (told : Option (List ℕ)) → TellsReadings told told []
+tells-none None = tt
+tells-none (Some before) = sym (append-nil before)
+
+-- one reading more
+pub tells-more : (a b c : Option (List ℕ)) (readings : List ℕ) (reading : ℕ) → TellsReadings a b readings → TellsReading b c reading → TellsReadings a c (readings ++ reading ∷ [])
+tells-more a None None readings reading first second = tt
+tells-more a None (Some z) readings reading first second = absurd second
+tells-more a (Some y) None readings reading first second = tt
+tells-more None (Some y) (Some z) readings reading first second = absurd first
+tells-more (Some x) (Some y) (Some z) readings reading first second = second ∙ ap (λ told. told ++ reading ∷ []) first ∙ append_assoc x readings (reading ∷ [])
+
+-- some readings more
+pub tells-all : (a b c : Option (List ℕ)) (readings others : List ℕ) → TellsReadings a b readings → TellsReadings b c others → TellsReadings a c (readings ++ others)
+tells-all a None None readings others first second = tt
+tells-all a None (Some z) readings others first second = absurd second
+tells-all a (Some y) None readings others first second = tt
+tells-all None (Some y) (Some z) readings others first second = absurd first
+tells-all (Some x) (Some y) (Some z) readings others first second = second ∙ ap (λ told. told ++ others) first ∙ append_assoc x readings others

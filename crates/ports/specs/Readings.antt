@@ -8,6 +8,12 @@ TellsReading old None reading = ⊤
 TellsReading None (Some after) reading = ⊥
 TellsReading (Some before) (Some after) reading = after ≡ before ++ reading ∷ []
 
+-- the same of so many readings, one after another
+abbrev pub TellsReadings : Option (List ℕ) → Option (List ℕ) → List ℕ → Type 0
+TellsReadings old None readings = ⊤
+TellsReadings None (Some after) readings = ⊥
+TellsReadings (Some before) (Some after) readings = after ≡ before ++ readings
+
 -- the reading at a place of a list: its last one past its end, 0 where it is empty, and none past 2^40 - 1
 unfoldable pub reading_at : List ℕ → ℕ → ℕ
 reading_at readings place = min (unwrap_or (slice_get readings (min place (length readings - 1))) 0) (2 ^ 40 - 1)

@@ -11,6 +11,8 @@ mod laws;
 mod line_reader;
 mod request;
 mod ship_counts;
+#[cfg(test)]
+mod tests;
 
 pub use call::Call;
 pub use coordinates::{coord, player, system};

@@ -11,7 +11,6 @@ use Rattle.base_ids.specs.declared.cell_id.CellId.{CellId}
 use Rattle.base_ids.specs.declared.cell_id.CellId.TheVariants.{Account, Planet}
 use Rattle.request_text.specs.declared.request.Request.{Request}
 use Rattle.request_text.specs.declared.request.Request.TheVariants.{Planet as PlanetOf}
-use Rattle.request_text.specs.declared.call.Call.{Call}
 use Rattle.tick_model.specs.Asking.{Asks, brought}
 use Rattle.tick_model.specs.declared.acting.Acted.{Acted}
 use Rattle.tick_model.specs.Strict.{Comes}
@@ -147,17 +146,17 @@ comes_as rules seen player caller planet caller_there planet_there acted comes s
   comes.body seen ∙ (λ i. (planet_outcome rules seen player (same_caller i) (same_planet i)).body),
 )
 
--- a universe that was brought to a call's moment and answers there has been asked
-pub asks_planet : (old ticked new : Universe) (call : Call) (at : Coord) (answer : Reply)
-    → call.req ≡ PlanetOf at
-    → ticked ≡ brought (max call.reading old.moment) old
+-- a universe that was brought to a request's moment and answers there has been asked
+pub asks_planet : (old ticked new : Universe) (player : Player) (req : Request) (reading : ℕ) (at : Coord) (answer : Reply)
+    → req ≡ PlanetOf at
+    → ticked ≡ brought (max reading old.moment) old
     → new ≡ record ticked { number = old.number + 1 }
-    → answer ≡ record { number = old.number + 1; moment = max call.reading old.moment; code = (planet_answer ticked call.player at).code; body = (planet_answer ticked call.player at).body }
-    → Asks old new call answer
-asks_planet old ticked new call at answer req brings after answers =
-    let moment = max call.reading old.moment in
-    let stepped = ap (λ (r : Request). step (brought moment old) (record { number = old.number + 1; moment = moment; reading = call.reading; player = call.player; req = r })) req ∙ step_is (brought moment old) (old.number + 1) moment call.reading call.player at in
-    let here = ap (λ (u : Universe). stepped_at u (old.number + 1) moment call.player at) brings in
+    → answer ≡ record { number = old.number + 1; moment = max reading old.moment; code = (planet_answer ticked player at).code; body = (planet_answer ticked player at).body }
+    → Asks old new player req reading answer
+asks_planet old ticked new player req reading at answer is brings after answers =
+    let moment = max reading old.moment in
+    let stepped = ap (λ (r : Request). step (brought moment old) (record { number = old.number + 1; moment = moment; reading = reading; player = player; req = r })) is ∙ step_is (brought moment old) (old.number + 1) moment reading player at in
+    let here = ap (λ (u : Universe). stepped_at u (old.number + 1) moment player at) brings in
     record {
       after = after ∙ ap (λ (s : Stepped). s.universe) (here ∙ sym stepped);
       answer = answers ∙ ap (λ (s : Stepped). s.reply) (here ∙ sym stepped);

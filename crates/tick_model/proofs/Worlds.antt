@@ -10,8 +10,8 @@ use Rattle.tick_model.specs.Step.{step}
 use Rattle.tick_model.specs.declared.reply.Reply.{Reply}
 use Rattle.tick_model.specs.History.{MayFollow, IsLegal, IsLegalFrom}
 use Rattle.tick_model.specs.Asking.{Asks, brought, entry_of}
-use Rattle.tick_model.specs.Talk.{IsOf}
-use Rattle.request_text.specs.declared.call.Call.{Call}
+use Rattle.base_ids.specs.declared.player.Player.{Player}
+use Rattle.request_text.specs.declared.request.Request.{Request}
 use Rattle.tick_model.specs.World.{acted, at_moment, ticked, world, reply}
 
 -- the number and the moment of the last entry
@@ -180,26 +180,30 @@ stands-next base es u e stands follows =
       made = sym (rw there (ticked-at base es e (e.moment - base.moment) own ∙ ap (λ v. (step v e).universe) (world-brought base es u e.moment stands later)));
     }
 
--- A call that was asked of a universe that stands for a history is the history's next entry, and its answer is
+-- A request that was asked of a universe that stands for a history is the history's next entry, and its answer is
 -- that entry's reply.
-pub record Continues (base : Universe) (history : List Entry) (new : Universe) (call : Call) (answer : Reply) : Type 0 where
+pub record Continues (base : Universe) (history : List Entry) (new : Universe) (player : Player) (req : Request) (reading : ℕ) (answer : Reply) : Type 0 where
   pub entry : Entry
-  pub of : IsOf call entry
+  pub reading_is : entry.reading ≡ reading
+  pub player_is : entry.player ≡ player
+  pub req_is : entry.req ≡ req
   pub stands : Stands base (history ++ entry ∷ []) new
   pub replied : answer ≡ reply base history entry
 
-pub stands-asked : (base : Universe) (history : List Entry) (old new : Universe) (call : Call) (answer : Reply)
-    → Stands base history old → Asks old new call answer → Continues base history new call answer
-stands-asked base history old new call answer stands asked =
-    let entry = entry_of old call in
-    let later : old.moment ≤ max call.reading old.moment = omega arith in
+pub stands-asked : (base : Universe) (history : List Entry) (old new : Universe) (player : Player) (req : Request) (reading : ℕ) (answer : Reply)
+    → Stands base history old → Asks old new player req reading answer → Continues base history new player req reading answer
+stands-asked base history old new player req reading answer stands asked =
+    let entry = entry_of old player req reading in
+    let later : old.moment ≤ max reading old.moment = omega arith in
     record {
       entry = entry;
-      of = record { reading = refl; player = refl; req = refl };
+      reading_is = refl;
+      player_is = refl;
+      req_is = refl;
       stands = subst (Stands base (history ++ entry ∷ [])) (sym asked.after) (stands-next base history old entry stands (record { next = refl; latest = refl }));
       replied = asked.answer ∙ sym (ap (λ u. (step u entry).reply) (world-brought base history old entry.moment stands later));
     }
 
--- a call takes the next number
-pub asked-number : (old new : Universe) (call : Call) (answer : Reply) → Asks old new call answer → new.number ≡ old.number + 1
-asked-number old new call answer asked = ap (λ u. u.number) asked.after ∙ step-number (brought (entry_of old call).moment old) (entry_of old call)
+-- a request takes the next number
+pub asked-number : (old new : Universe) (player : Player) (req : Request) (reading : ℕ) (answer : Reply) → Asks old new player req reading answer → new.number ≡ old.number + 1
+asked-number old new player req reading answer asked = ap (λ u. u.number) asked.after ∙ step-number (brought (max reading old.moment) old) (entry_of old player req reading)

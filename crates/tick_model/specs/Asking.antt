@@ -1,7 +1,8 @@
 -- What it is to ask a universe. Rule: docs/RULES.md, "Time and order".
 use Rattle.std.specs.Prelude.{◌≡◌, ℕ, ◌+◌, ◌-◌, max}
 use Rattle.rates.specs.Times.{times}
-use Rattle.request_text.specs.declared.call.Call.{Call}
+use Rattle.base_ids.specs.declared.player.Player.{Player}
+use Rattle.request_text.specs.declared.request.Request.{Request}
 use Rattle.request_text.specs.declared.entry.Entry.{Entry}
 use Rattle.tick_model.specs.declared.reply.Reply.{Reply}
 use Rattle.tick_model.specs.Universe.{Universe}
@@ -12,19 +13,13 @@ use Rattle.tick_model.specs.Step.{step}
 abbrev pub brought : ℕ → Universe → Universe
 brought moment universe = times (moment - universe.moment) universe_second universe
 
--- the entry that a call becomes: it has the next number, and acts at its reading, or at the universe's moment
+-- the entry that a request becomes: it has the next number, and acts at its reading, or at the universe's moment
 -- where that is later
-abbrev pub entry_of : Universe → Call → Entry
-entry_of universe call =
-    record {
-      number = universe.number + 1;
-      moment = max call.reading universe.moment;
-      reading = call.reading;
-      player = call.player;
-      req = call.req;
-    }
+abbrev pub entry_of : Universe → Player → Request → ℕ → Entry
+entry_of universe player req reading =
+    record { number = universe.number + 1; moment = max reading universe.moment; reading = reading; player = player; req = req }
 
--- A call was asked: the universe was brought to the call's moment, and the call's entry acted there.
-pub record Asks (old new : Universe) (call : Call) (reply : Reply) : Type 0 where
-  pub after : new ≡ (step (brought (entry_of old call).moment old) (entry_of old call)).universe
-  pub answer : reply ≡ (step (brought (entry_of old call).moment old) (entry_of old call)).reply
+-- A universe was asked: it was brought to the request's moment, and the request's entry acted there.
+pub record Asks (old new : Universe) (player : Player) (req : Request) (reading : ℕ) (reply : Reply) : Type 0 where
+  pub after : new ≡ (step (brought (max reading old.moment) old) (entry_of old player req reading)).universe
+  pub answer : reply ≡ (step (brought (max reading old.moment) old) (entry_of old player req reading)).reply

@@ -19,10 +19,21 @@ is_there of_nothing = false
 is_there of_account = true
 is_there (of_planet planet) = true
 
--- The cells that a request asks for, among those that are there. Who isn't a player asks for none.
+-- the forms that are answered today; a line of any other form is no request yet
+abbrev pub IsBuilt : Request → Type 0
+IsBuilt (PlanetOf at) = Unit {0}
+IsBuilt _ = ⊥
+
+-- the places that a request names
+abbrev pub names : Request → CellId → Bool
+names (PlanetOf at) cell = same_cell (Planet at) cell
+names _ cell = false
+
+-- The cells that a request asks for, among those that are there: the caller's account, and the places that it names.
+-- Who isn't a player asks for none.
 abbrev pub asked : (CellId → View) → Player → Request → CellId → Bool
-asked seen player (PlanetOf at) cell =
-    is_there (seen (Account player)).own && is_there (seen cell).own && (same_cell (Account player) cell || same_cell (Planet at) cell)
+asked seen player req cell =
+    is_there (seen (Account player)).own && is_there (seen cell).own && (same_cell (Account player) cell || names req cell)
 
 -- nothing of any cell but these is shown
 abbrev pub shown : (CellId → Bool) → (CellId → View) → CellId → View
@@ -72,9 +83,11 @@ planet_outcome rules seen player of_account of_account = refused 2 seen
 planet_outcome rules seen player of_nothing there = refused 1 seen
 planet_outcome rules seen player (of_planet planet) there = refused 1 seen
 
--- what comes of a request, by what is seen of the cells that it asks for
+-- What comes of a request, by what is seen of the cells that it asks for. No line of a form that isn't built yet makes
+-- an entry; such a form is granted with no lines here, since the definition is of every request.
 abbrev pub outcome : Rules → (CellId → View) → Player → Request → Outcome
 outcome rules seen player (PlanetOf at) = planet_outcome rules seen player (seen (Account player)).own (seen (Planet at)).own
+outcome rules seen player _ = told [] seen
 
 -- the universe after a request, and the reply
 pub record Stepped : Type 0 where

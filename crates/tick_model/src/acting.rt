@@ -1,11 +1,14 @@
 ghost use Rattle.std.specs.Prelude.{◌≡◌, [], IfOk, option_map};
+ghost use Rattle.std.specs.Prelude.{MatchBool};
+ghost use Rattle.tick_model.specs.Step.{IsBuilt};
 ghost use Rattle.tick_model.specs.Strict.{Comes, fields_of, own_account, own_planet};
 
 use crate::planet::Planet;
 use crate::rules::Rules;
 use crate::writing::planet_lines;
-use base_ids::Player;
+use base_ids::{Coord, Player};
 use base_text::Bytes;
+use request_text::Request;
 use std::alloc::{AllocError, Global};
 
 /// The caller isn't a player.
@@ -30,6 +33,27 @@ fn refused(alloc: Global, code: u8) -> Acted
     Acted {
         code,
         body: Bytes::new(alloc),
+    }
+}
+
+/// Whether the form of the request is answered today.
+pub fn is_built(req: &Request) -> bool
+    ensures { MatchBool result (IsBuilt req.now) (IsBuilt req.now → ⊥) }
+{
+    match req {
+        Request::Planet(_) => true,
+        _ => false,
+    }
+}
+
+/// The place that a request for a planet names.
+pub fn place_of(req: &Request) -> Coord
+    requires { IsBuilt req.now }
+    ensures { req.now ≡ Request.Planet result }
+{
+    match req {
+        Request::Planet(at) => *at,
+        _ => unreachable!(),
     }
 }
 

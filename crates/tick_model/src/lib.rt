@@ -12,7 +12,7 @@ mod strict;
 mod ticking;
 mod writing;
 
-pub use acting::{Acted, NO_PLANET, NO_PLAYER, NOT_YOURS, show_planet};
+pub use acting::{Acted, NO_PLANET, NO_PLAYER, NOT_YOURS, is_built, place_of, show_planet};
 pub use laws::answer_once;
 pub use planet::Planet;
 pub use reply::Reply;

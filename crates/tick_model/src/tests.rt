@@ -1,5 +1,6 @@
 use crate::{
-    NO_PLANET, NO_PLAYER, NOT_YOURS, Planet, Reply, Rules, StrictUniverse, ask, write_reply,
+    NO_PLANET, NO_PLAYER, NOT_YOURS, Planet, Reply, Rules, StrictUniverse, ask, is_built,
+    write_reply,
 };
 use base_ids::{Coord, Player};
 use base_text::Bytes;
@@ -48,9 +49,11 @@ fn asked(
     universe: &mut StrictUniverse,
     line: &[u8],
 ) -> Result<Reply, Fail> {
-    let call = Call::read(line).ok_or("no call")?;
-    assert!(rt; universe.number < 1 << 40);
-    Ok(ask(alloc, universe, call)?)
+    let call = Call::read(line, true).ok_or("no call")?;
+    let reading = call.reading.ok_or("no reading")?;
+    assert!(rt; universe.number < 1 << 40 && reading < 1 << 40);
+    assert!(rt; is_built(&call.req));
+    Ok(ask(alloc, universe, call.player, &call.req, reading)?)
 }
 
 #[test]

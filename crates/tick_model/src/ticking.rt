@@ -1,14 +1,16 @@
 ghost use Rattle.std.specs.Prelude.{◌≡◌, ◌+◌, ◌≤◌, ◌<◌, ◌^◌, map, IfOk, OnErr};
 ghost use Rattle.tick_model.specs.Asking.{Asks, brought};
 ghost use Rattle.tick_model.specs.Second.{planet_second, universe_second};
+ghost use Rattle.tick_model.specs.Step.{IsBuilt};
 ghost use Rattle.tick_model.specs.Strict.{fields_of, universe_of};
 
-use crate::acting::show_planet;
+use crate::acting::{place_of, show_planet};
 use crate::planet::Planet;
 use crate::reply::Reply;
 use crate::rules::Rules;
 use crate::strict::{StrictUniverse, has_player, planet_at};
-use request_text::Call;
+use base_ids::Player;
+use request_text::Request;
 use std::alloc::{AllocError, Global};
 
 /// One second of each planet.
@@ -40,23 +42,31 @@ fn tick_to(universe: &mut StrictUniverse, moment: u64)
     }
 }
 
-/// Asks the universe, which ticks second by second to the moment of the call.
+/// Asks the universe, which ticks second by second to the moment of the request. The reading is a second below 2^40.
 ///
 /// It is the plain form of asking: it takes a step for every second and every planet, and a copy of the
 /// universe. Where memory runs out the universe stays as it was.
-pub fn ask(alloc: Global, universe: &mut StrictUniverse, call: Call) -> Result<Reply, AllocError>
-    requires { universe.old.number < 2 ^ 40 }
-    ensures ok { IfOk result (Asks (universe_of universe.old) (universe_of universe.new) call) }
+pub fn ask(
+    alloc: Global,
+    universe: &mut StrictUniverse,
+    player: Player,
+    req: &Request,
+    reading: u64,
+) -> Result<Reply, AllocError>
+    requires built { IsBuilt req.now }
+    requires number { universe.old.number < 2 ^ 40 }
+    requires reading { reading < 2 ^ 40 }
+    ensures ok { IfOk result (Asks (universe_of universe.old) (universe_of universe.new) player req.now reading) }
     ensures err { OnErr result (universe_of universe.new ≡ universe_of universe.old) }
 {
     let number = universe.number + 1;
-    let moment = call.reading.max(universe.moment);
+    let moment = reading.max(universe.moment);
     let mut ticking = universe.copy()?;
     tick_to(&mut ticking, moment);
-    let at = call.req.place();
-    let is_player = has_player(&ticking.players, call.player);
+    let at = place_of(req);
+    let is_player = has_player(&ticking.players, player);
     let planet = planet_at(&ticking.planets, at);
-    let acted = show_planet(alloc, ticking.rules, call.player, is_player, planet)?;
+    let acted = show_planet(alloc, ticking.rules, player, is_player, planet)?;
     ticking.number = number;
     *universe = ticking;
     Ok(Reply {

@@ -1,15 +1,23 @@
--- The lines passed so far were answered, and there are numbers for those that are left.
-use Rattle.std.proofs.Common.{◌+◌, ◌^◌, ◌<◌, ◌≤◌, length}
-use Rattle.std.specs.Str.Lines.{lines}
+-- The lines that were taken so far were answered.
+use Rattle.std.proofs.Common.{◌≡◌, ℕ, List, ◌+◌, ◌≤◌, ◌^◌, length}
+use Rattle.request_text.specs.LineReading.{Known, Sees, ahead, taken}
 use Rattle.tick_model.specs.Strict.{universe_of}
-use Rattle.command.proofs.Progress.{Progress}
+use Rattle.command.proofs.Progress.{Come}
 use Rattle.command.proofs.answering.answer_lines.Given as goal
 
-abbrev pub invariant-lines : goal.invariant-lines
-invariant-lines g l =
-    let sink = g.K.Sink in
-    Progress (universe_of l.initial.universe) (universe_of l.universe) (lines l.script) (lines l.rest) (sink.written l.initial.sink) (sink.written l.sink)
-    × (l.universe.number + length l.rest < 2 ^ 40) × (sink.faults l.initial.sink ≤ sink.faults l.sink)
+abbrev pub invariant-script : goal.invariant-script
+invariant-script g l =
+    let left = g.S.Source.left in
+    let told = g.C.Clock.told in
+    let written = g.K.Sink.written in
+    record {
+      room : l.universe.number + ahead l.lines ≤ 2 ^ 40;
+      source_faults : g.S.Source.faults l.fn.source ≤ g.S.Source.faults l.source;
+      sink_faults : g.K.Sink.faults l.fn.sink ≤ g.K.Sink.faults l.sink;
+      counts : Known (left l.fn.source) (left l.source) (λ before after. taken l.lines + length after ≡ taken l.fn.lines + length before);
+      come : Known (left l.fn.source) (left l.source) (λ before after. (text : List ℕ) → Sees l.fn.lines before text
+          → Come l.lines after (universe_of l.fn.universe) (universe_of l.universe) text (told l.fn.clock) (told l.clock) (written l.fn.sink) (written l.sink));
+    }
 
-abbrev pub decreases-lines : goal.decreases-lines
-decreases-lines g l = length l.rest
+abbrev pub decreases-script : goal.decreases-script
+decreases-script g l = ahead l.lines

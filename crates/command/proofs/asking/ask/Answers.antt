@@ -15,9 +15,9 @@ pub returns-clause-ok : goal.returns-clause-ok
 returns-clause-ok c =
     let universe = c.args.universe.now in
     let old = universe_of universe in
-    let player = c.args.call.player in
-    let at = c.place-at.result in
-    let moment = max c.args.call.reading universe.moment in
+    let player = c.args.player in
+    let at = c.place_of-at.result in
+    let moment = max c.args.reading universe.moment in
     let seconds = c.max-moment.result - universe.moment in
     let planets = map fields_of universe.planets.items in
     let ticked = standing universe.rules c.max-moment.result universe.number universe.players.items (map (planet_after seconds universe.rules) planets) in
@@ -29,6 +29,6 @@ returns-clause-ok c =
     let account = ap own_account (c.has_player-is_player.ensures ∙ ap (list_any (λ other. same_player other player)) c.deref.ensures.value) in
     let planet = ap own_planet (c.planet_later-planet.ensures ∙ ap (λ xs. find (λ planet. same_coord planet.at at) (map (planet_after seconds universe.rules) (map fields_of xs))) c.deref-2.ensures.value) in
     let acted = comes_as ticked.rules (view ticked) player _ _ (ticked.own (Account player)) (ticked.own (Planet at)) c.in_ok-acted.acted c.in_ok-acted.ensures account planet in
-    asks_planet old ticked _ c.args.call at _ c.place-at.ensures (brings ∙ ap (λ m. brought m old) is)
+    asks_planet old ticked _ player c.args.req.now c.args.reading at _ c.place_of-at.ensures (brings ∙ ap (λ m. brought m old) is)
     (ap (λ (u : Universe). record u { number = old.number + 1 }) (c.advance.ensures ∙ sym brings))
     (λ i. record { number = old.number + 1; moment = is i; code = acted.0 i; body = acted.1 i })

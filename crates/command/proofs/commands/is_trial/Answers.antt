@@ -1,6 +1,6 @@
 use Rattle.std.proofs.Common.{◌≡◌, ◌∷◌, [], ◌∙◌, ap, map, sym}
 use Rattle.std.specs.Prelude.{codes, string_bytes}
-use Rattle.command.proofs.Readings.{one_item}
+use Rattle.command.proofs.Streaming.{one_item}
 use Rattle.command.proofs.commands.is_trial.Goals as goal
 
 pub returns-in-len1 : goal.returns-in-len1

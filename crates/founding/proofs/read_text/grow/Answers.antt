@@ -1,6 +1,6 @@
-use Rattle.std.proofs.Common.{◌≡◌, ◌+◌, ℕ, List, arith}
+use Rattle.std.proofs.Common.{◌≡◌, ◌+◌, ◌∙◌, ℕ, List, length, refl, arith}
 use Rattle.std.specs.Str.Lines.{lines}
-use Rattle.request_text.specs.LineReading.{Sees}
+use Rattle.request_text.specs.LineReading.{Sees, taken}
 use Rattle.request_text.proofs.LineKnowing.{known-same, known-then}
 use Rattle.tick_model.specs.Strict.{universe_of}
 use Rattle.founding.specs.Founding.{FoundsFrom, IsBadFrom}
@@ -13,7 +13,8 @@ pub lines-init : goal.lines-init
 lines-init g c = record {
   indexed = c.requires;
   drawn = known-same (g.S.Source.left c.args.source.now) _ (λ left text seen. drawn-start (draft_of c.args.draft) c.args.lines.now left text seen);
-  nearer = omega arith;
+  ahead = omega arith;
+  counts = known-same (g.S.Source.left c.args.source.now) _ (λ left. refl);
   faults = omega arith;
 }
 
@@ -32,7 +33,10 @@ lines-preserved g c =
       drawn =
           known-then (left c.args.source.now) (left c.lines.source) (left c.take_line.new.source) _ _ (λ x z. (text : List ℕ) → Sees c.args.lines.now x text → Drawn start new after z text)
           (λ x y z first then text seen. let d = first text seen in let t = then d.rest d.sees in drawn-line start old new reader after y z text t.0 d t.1 t.2) before.drawn turn.turns;
-      nearer = omega (arith, before.nearer, turn.ahead);
+      ahead = omega (arith, before.ahead, turn.ahead);
+      counts =
+          known-then (left c.args.source.now) (left c.lines.source) (left c.take_line.new.source) _ _ (λ x z. taken c.take_line.new.lines + length z ≡ taken c.args.lines.now + length x)
+          (λ x y z first second. second ∙ first) c.lines.invariant.counts turn.counts;
       faults = omega (arith, before.faults, turn.faults);
     }
 
@@ -59,3 +63,38 @@ returns-in-Bad-clause-reads g c =
     known-then (left c.args.source.now) (left c.lines.source) (left c.take_line.new.source) _ _
     (λ x z. (text : List ℕ) → Sees c.args.lines.now x text → IsBadFrom start (next_number start) (lines text) (c.count-number.result + 2))
     (λ x y z first then text seen. let d = first text seen in drawn-bad start old c.lines.lines y text (c.count-number.result + 2) d (then d.rest d.sees) number) c.lines.invariant.drawn c.in-Bad.ensures.turns
+
+pub returns-in-Ended-clause-counts :
+    goal.returns-in-Ended-clause-counts
+returns-in-Ended-clause-counts g c =
+    let left = g.S.Source.left in
+    known-then (left c.args.source.now) (left c.lines.source) (left c.take_line.new.source) _ _ (λ x z. taken c.take_line.new.lines + length z ≡ taken c.args.lines.now + length x)
+    (λ x y z first second. second ∙ first) c.lines.invariant.counts c.in-Ended.ensures.counts
+
+pub returns-in-Bad-clause-counts :
+    goal.returns-in-Bad-clause-counts
+returns-in-Bad-clause-counts g c =
+    let left = g.S.Source.left in
+    known-then (left c.args.source.now) (left c.lines.source) (left c.take_line.new.source) _ _ (λ x z. taken c.take_line.new.lines + length z ≡ taken c.args.lines.now + length x)
+    (λ x y z first second. second ∙ first) c.lines.invariant.counts c.in-Bad.ensures.counts
+
+pub returns-in-Fault-clause-counts :
+    goal.returns-in-Fault-clause-counts
+returns-in-Fault-clause-counts g c =
+    let left = g.S.Source.left in
+    known-then (left c.args.source.now) (left c.lines.source) (left c.take_line.new.source) _ _ (λ x z. taken c.take_line.new.lines + length z ≡ taken c.args.lines.now + length x)
+    (λ x y z first second. second ∙ first) c.lines.invariant.counts c.in-Fault.ensures.counts
+
+pub returns-in-Spent-clause-counts :
+    goal.returns-in-Spent-clause-counts
+returns-in-Spent-clause-counts g c =
+    let left = g.S.Source.left in
+    known-then (left c.args.source.now) (left c.lines.source) (left c.take_line.new.source) _ _ (λ x z. taken c.take_line.new.lines + length z ≡ taken c.args.lines.now + length x)
+    (λ x y z first second. second ∙ first) c.lines.invariant.counts c.in-Spent.ensures.counts
+
+pub returns-in-Memory-clause-counts :
+    goal.returns-in-Memory-clause-counts
+returns-in-Memory-clause-counts g c =
+    let left = g.S.Source.left in
+    known-then (left c.args.source.now) (left c.lines.source) (left c.take_line.new.source) _ _ (λ x z. taken c.take_line.new.lines + length z ≡ taken c.args.lines.now + length x)
+    (λ x y z first second. second ∙ first) c.lines.invariant.counts c.in-Memory.ensures.counts

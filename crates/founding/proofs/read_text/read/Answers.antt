@@ -1,6 +1,6 @@
-use Rattle.std.proofs.Common.{◌≤◌, ℕ, List, length, sym, subst, arith}
+use Rattle.std.proofs.Common.{◌≡◌, ◌+◌, ◌≤◌, ◌∙◌, ℕ, List, length, sym, subst, arith}
 use Rattle.std.specs.Str.Lines.{lines}
-use Rattle.request_text.specs.LineReading.{Follows, Sees}
+use Rattle.request_text.specs.LineReading.{Follows, Sees, taken}
 use Rattle.request_text.proofs.LineKnowing.{known-map, known-then}
 use Rattle.founding.specs.Drafts.{Drafted}
 use Rattle.founding.specs.Founding.{IsBadAt}
@@ -46,3 +46,9 @@ returns-in-End-clause-reads g c =
     let left = g.S.Source.left in
     known-map (left c.args.source.now) (left c.next.new.src) _ (λ x y. (text : List ℕ) → Sees c.args.lines.now x text → IsBadAt (lines text) 1)
     (λ x y tells text seen. empty_bad text (tells text seen).0) c.in-End.ensures.tells
+
+pub returns-in-Some-clause-counts : goal.returns-in-Some-clause-counts
+returns-in-Some-clause-counts g c =
+    let left = g.S.Source.left in
+    known-then (left c.args.source.now) (left c.next.new.src) (left c.grow.new.source) _ _ (λ x z. taken c.grow.new.lines + length z ≡ taken c.args.lines.now + length x)
+    (λ x y z first second. second ∙ first) c.in-Text.ensures.counts c.grow.ensures.counts
