@@ -1,5 +1,4 @@
-ghost use Rattle.std.specs.Prelude.{◌≡◌, ◌+◌, ◌↔◌, ◌<◌, length, IsTrue, MatchOption};
-ghost use Rattle.base_text.specs.Parts.{words};
+ghost use Rattle.std.specs.Prelude.{◌≡◌, ◌+◌, ◌↔◌, length, IsTrue, MatchOption};
 ghost use Rattle.tick_model.specs.Strict.{universe_of};
 ghost use Rattle.founding.specs.Drafts.{begun, founded, planets_of, MayName, MayStand};
 ghost use Rattle.founding.specs.Indexes.{draft_of, IsIndexed};

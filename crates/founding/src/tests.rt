@@ -195,8 +195,13 @@ fn a_fault_ends_the_reading(rt: HostRuntime) -> Result<(), Fail> {
     Ok(())
 }
 
-// A heading, so many players, and planets for each of the first so many, two each.
-fn large_text(alloc: Global, players: u32, planets: u32) -> Result<Vec<u8>, AllocError> {
+// A heading, so many players and so many planets, two for each player from the first on, and then the ending.
+fn large_text(
+    alloc: Global,
+    players: u32,
+    planets: u32,
+    ending: &[u8],
+) -> Result<Vec<u8>, AllocError> {
     let mut text = Vec::from_slice(alloc, b"universe 7 1 1000 0\n")?;
     for i in 0..players {
         let k = i + 1;
@@ -211,20 +216,22 @@ fn large_text(alloc: Global, players: u32, planets: u32) -> Result<Vec<u8>, Allo
         let line = format!(in alloc; "planet {galaxy}:{system}:{position} {owner} 40 163\n")?;
         text.extend_from_slice(line.as_bytes())?;
     }
-    text.extend_from_slice(b".\n")?;
+    text.extend_from_slice(ending)?;
     Ok(text)
 }
 
 #[test]
 fn a_universe_has_10000_players_and_20000_planets_at_most(rt: HostRuntime) -> Result<(), Fail> {
-    let full = large_text(rt.alloc(), 10000, 20000)?;
-    assert_eq!(rt; counts_of(rt.alloc(), &full)?, Ok((10000, 20000)));
-    let crowded = large_text(rt.alloc(), 10001, 0)?;
-    assert_eq!(rt; counts_of(rt.alloc(), &crowded)?, Err(10002));
-    let mut planted = full.clone()?;
-    planted.truncate(full.len() - 2);
-    planted.extend_from_slice(b"planet 9:1:1 10000 40 163\n.\n")?;
-    assert_eq!(rt; counts_of(rt.alloc(), &planted)?, Err(30002));
+    let cases: [(u32, u32, &[u8], Result<(usize, usize), u64>); 4] = [
+        (10000, 20000, b".\n", Ok((10000, 20000))),
+        (10000, 20000, b"planet 9:1:1 10000 40 163\n.\n", Err(30002)),
+        (10000, 0, b".\n", Ok((10000, 0))),
+        (10001, 0, b".\n", Err(10002)),
+    ];
+    for (players, planets, ending, want) in cases {
+        let text = large_text(rt.alloc(), players, planets, ending)?;
+        assert_eq!(rt; counts_of(rt.alloc(), &text)?, want);
+    }
     Ok(())
 }
 
