@@ -19,7 +19,7 @@ words_more words i d within =
     let parts = map word_text (take i words) in
     let part = word_text (get_or words i d) in
     ap (join_with_byte 32) (map_more word_text words i d within) ∙ join-more 32 parts part
-      ∙ ap (λ b. join_with_byte 32 parts ++ cond b part (32 ∷ part)) (first_parts words i within)
+    ∙ ap (λ b. join_with_byte 32 parts ++ cond b part (32 ∷ part)) (first_parts words i within)
 
 -- the line of one kind more
 pub kinds_more : (label : List ℕ) (usual : ℕ) (kinds : List Kind) (numbers : List ℕ) (i : ℕ) (d : Kind) → i < length kinds → i < length numbers → kind_lines label usual (take (i + 1) kinds) (take (i + 1) numbers) ≡ kind_lines label usual (take i kinds) (take i numbers) ++ kind_line label usual (get_or kinds i d) (get_or numbers i 0)

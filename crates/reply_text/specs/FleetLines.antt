@@ -7,7 +7,7 @@ use Rattle.base_ids.specs.declared.player.Player.{Player}
 use Rattle.catalog.specs.Missions.{mission_word}
 use Rattle.catalog.specs.Texts.{ships_text}
 use Rattle.reply_text.specs.Words.{line}
-use Rattle.reply_text.specs.declared.fleet_lines.FleetLook.{FleetLook}
+use Rattle.reply_text.specs.declared.fleet_lines.FleetLine.{FleetLine}
 use Rattle.reply_text.specs.declared.fleet_lines.Stage.{Stage}
 use Rattle.reply_text.specs.declared.fleet_lines.Stage.TheVariants.{Out, Back}
 
@@ -17,10 +17,10 @@ stage_word Out = codes "out"
 stage_word Back = codes "back"
 
 -- `fleet N GROUP MISSION FROM TO STAGE SECOND M C D SHIPS`
-abbrev pub fleet_line : FleetLook → List ℕ
+abbrev pub fleet_line : FleetLine → List ℕ
 fleet_line fleet =
     line (codes "fleet" ∷ decimal fleet.number ∷ decimal fleet.group ∷ mission_word fleet.mission ∷ coord_text fleet.from ∷ coord_text fleet.to
-      ∷ stage_word fleet.stage ∷ decimal fleet.second ∷ decimal fleet.cargo.metal ∷ decimal fleet.cargo.crystal ∷ decimal fleet.cargo.deuterium ∷ ships_text fleet.ships.n ∷ [])
+    ∷ stage_word fleet.stage ∷ decimal fleet.second ∷ decimal fleet.cargo.metal ∷ decimal fleet.cargo.crystal ∷ decimal fleet.cargo.deuterium ∷ ships_text fleet.ships.n ∷ [])
 
 -- `at C OWNER M C`: a planet of a system, with the metal and crystal of its debris
 abbrev pub at_line : Coord → Player → ℕ → ℕ → List ℕ

@@ -55,11 +55,5 @@ pub fn push_own_planet(body: &mut Bytes, at: Coord) -> Result<(), AllocError>
     ensures ok { OnOk result (body.new ≡ body.old ++ own_planet_line at) }
     ensures err { OnErr result (body.new ≡ body.old) }
 {
-    push_line(
-        body,
-        &[
-            Word::Name("planet"),
-            Word::Place(at.g, at.s, at.p),
-        ],
-    )
+    push_line(body, &[Word::Name("planet"), Word::Place(at.g, at.s, at.p)])
 }

@@ -35,7 +35,7 @@ impl Stage {
 /// What the line of a fleet shows: its number, its group (its own number where it joined nobody), its mission, where it
 /// comes from and flies to, its stage, the second at which it arrives or is back, its cargo and its ships.
 #[derive(Clone, Copy, Debug, PartialEq, Eq)]
-pub struct FleetLook {
+pub struct FleetLine {
     pub number: u64,
     pub group: u64,
     pub mission: Mission,
@@ -50,7 +50,7 @@ pub struct FleetLook {
 /// Appends `fleet N GROUP MISSION FROM TO STAGE SECOND M C D SHIPS`: a fleet.
 ///
 /// It fails only where memory runs out, and then appends nothing.
-pub fn push_fleet(body: &mut Bytes, fleet: &FleetLook) -> Result<(), AllocError>
+pub fn push_fleet(body: &mut Bytes, fleet: &FleetLine) -> Result<(), AllocError>
     ensures ok { OnOk result (body.new ≡ body.old ++ fleet_line fleet.now) }
     ensures err { OnErr result (body.new ≡ body.old) }
 {
@@ -76,7 +76,13 @@ pub fn push_fleet(body: &mut Bytes, fleet: &FleetLook) -> Result<(), AllocError>
 /// Appends `at C OWNER M C`: a planet of a system, and the metal and crystal in its orbit, in whole units.
 ///
 /// It fails only where memory runs out, and then appends nothing.
-pub fn push_at(body: &mut Bytes, at: Coord, owner: Player, metal: u64, crystal: u64) -> Result<(), AllocError>
+pub fn push_at(
+    body: &mut Bytes,
+    at: Coord,
+    owner: Player,
+    metal: u64,
+    crystal: u64,
+) -> Result<(), AllocError>
     ensures ok { OnOk result (body.new ≡ body.old ++ at_line at owner metal crystal) }
     ensures err { OnErr result (body.new ≡ body.old) }
 {

@@ -44,11 +44,7 @@ fn push_kind(
     }
     push_line(
         body,
-        &[
-            Word::Name(label),
-            Word::OfKind(kind),
-            Word::Number(number),
-        ],
+        &[Word::Name(label), Word::OfKind(kind), Word::Number(number)],
     )
 }
 

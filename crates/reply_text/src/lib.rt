@@ -11,11 +11,13 @@ mod order_lines;
 mod planet_lines;
 mod queue_lines;
 mod reply;
+#[cfg(test)]
+mod tests;
 mod units;
 mod words;
 
 pub use account_lines::{AccountHead, push_account, push_own_planet, push_technologies};
-pub use fleet_lines::{FleetLook, Stage, push_at, push_fleet};
+pub use fleet_lines::{FleetLine, Stage, push_at, push_fleet};
 pub use heads::{head, refused, write_reply};
 pub use order_lines::{push_arrives, push_back, push_starts, push_waits};
 pub use planet_lines::{

@@ -30,13 +30,7 @@ pub fn push_waits(body: &mut Bytes, place: u64) -> Result<(), AllocError>
     ensures ok { OnOk result (body.new ≡ body.old ++ waits_line place) }
     ensures err { OnErr result (body.new ≡ body.old) }
 {
-    push_line(
-        body,
-        &[
-            Word::Name("waits"),
-            Word::Number(place),
-        ],
-    )
+    push_line(body, &[Word::Name("waits"), Word::Number(place)])
 }
 
 /// Appends `arrives SECOND fuel F`: the second at which a fleet arrives, and the units of deuterium that it burns.
@@ -64,11 +58,5 @@ pub fn push_back(body: &mut Bytes, second: u64) -> Result<(), AllocError>
     ensures ok { OnOk result (body.new ≡ body.old ++ back_line second) }
     ensures err { OnErr result (body.new ≡ body.old) }
 {
-    push_line(
-        body,
-        &[
-            Word::Name("back"),
-            Word::Number(second),
-        ],
-    )
+    push_line(body, &[Word::Name("back"), Word::Number(second)])
 }

@@ -59,7 +59,11 @@ pub fn push_building(body: &mut Bytes, item: RunningBuilding) -> Result<(), Allo
 /// Appends `waiting N NAME`: a building that waits, and the number of its order.
 ///
 /// It fails only where memory runs out, and then appends nothing.
-pub fn push_waiting_building(body: &mut Bytes, number: u64, building: Building) -> Result<(), AllocError>
+pub fn push_waiting_building(
+    body: &mut Bytes,
+    number: u64,
+    building: Building,
+) -> Result<(), AllocError>
     ensures ok { OnOk result (body.new ≡ body.old ++ waiting_building_line number building) }
     ensures err { OnErr result (body.new ≡ body.old) }
 {
@@ -95,7 +99,12 @@ pub fn push_yard(body: &mut Bytes, batch: RunningBatch) -> Result<(), AllocError
 /// Appends `yardwaiting N NAME LEFT`: a batch that waits, the number of its order, and how many units it has.
 ///
 /// It fails only where memory runs out, and then appends nothing.
-pub fn push_yard_waiting(body: &mut Bytes, number: u64, unit: Unit, left: u32) -> Result<(), AllocError>
+pub fn push_yard_waiting(
+    body: &mut Bytes,
+    number: u64,
+    unit: Unit,
+    left: u32,
+) -> Result<(), AllocError>
     ensures ok { OnOk result (body.new ≡ body.old ++ yard_waiting_line number unit left) }
     ensures err { OnErr result (body.new ≡ body.old) }
 {
@@ -134,7 +143,12 @@ pub fn push_research(body: &mut Bytes, item: RunningResearch) -> Result<(), Allo
 /// will do it.
 ///
 /// It fails only where memory runs out, and then appends nothing.
-pub fn push_waiting_research(body: &mut Bytes, number: u64, technology: Technology, at: Coord) -> Result<(), AllocError>
+pub fn push_waiting_research(
+    body: &mut Bytes,
+    number: u64,
+    technology: Technology,
+    at: Coord,
+) -> Result<(), AllocError>
     ensures ok { OnOk result (body.new ≡ body.old ++ waiting_research_line number technology at) }
     ensures err { OnErr result (body.new ≡ body.old) }
 {

@@ -47,7 +47,12 @@ fn push_degrees(body: &mut Bytes, degrees: i16) -> Result<(), AllocError>
 }
 
 /// Appends the place. Where it fails, a front of its text may have been appended.
-fn push_place_parts(body: &mut Bytes, galaxy: u8, system: u16, position: u8) -> Result<(), AllocError>
+fn push_place_parts(
+    body: &mut Bytes,
+    galaxy: u8,
+    system: u16,
+    position: u8,
+) -> Result<(), AllocError>
     ensures ok { OnOk result (body.new ≡ body.old ++ place_text galaxy system position) }
     ensures err { OnErr result (take (length body.old) body.new ≡ body.old) }
 {

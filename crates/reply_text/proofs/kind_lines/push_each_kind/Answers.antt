@@ -13,5 +13,5 @@ kinds-preserved c =
     let kinds = c.args.kinds.now in
     let i = c.kinds.i in
     let appended = c.in_ok-push_kind.ensures.ok
-      ∙ ap (λ number. c.kinds.body ++ kind_line label usual (get_or kinds i MetalMine) number) c.number_at.ensures in
+    ∙ ap (λ number. c.kinds.body ++ kind_line label usual (get_or kinds i MetalMine) number) c.number_at.ensures in
     appended_more _ _ _ _ _ _ appended c.kinds.invariant (kinds_more label usual kinds (numbers_of c.args.numbers) i MetalMine (omega arith) (omega arith))

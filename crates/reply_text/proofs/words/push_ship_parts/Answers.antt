@@ -1,4 +1,4 @@
-use Rattle.std.proofs.Common.{◌≡◌, ◌++◌, ◌∷◌, take, get_or, cond, ap, sym, ◌∙◌, arith}
+use Rattle.std.proofs.Common.{◌++◌, ◌∷◌, take, get_or, cond, ap, sym, ◌∙◌, arith}
 use Rattle.std.specs.List.{join_with_byte}
 use Rattle.catalog.specs.Texts.{ship_part, ship_parts}
 use Rattle.catalog.specs.declared.kind.Kind.TheVariants.{MetalMine}
