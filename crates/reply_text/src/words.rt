@@ -29,7 +29,7 @@ pub enum Word {
 }
 
 /// Appends the number. It fails only where memory runs out, and then appends nothing.
-pub fn push_number(body: &mut Bytes, number: u64) -> Result<(), AllocError>
+fn push_number(body: &mut Bytes, number: u64) -> Result<(), AllocError>
     ensures ok { OnOk result (body.new ≡ body.old ++ decimal number) }
     ensures err { OnErr result (body.new ≡ body.old) }
 {
