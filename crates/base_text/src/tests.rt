@@ -142,6 +142,10 @@ fn bytes_grow_line_by_line(rt: HostRuntime) -> Result<(), Fail> {
     bytes.push_line(b"end")?;
     assert!(rt; bytes.as_slice() == b"ok 7\n\nend\n".as_slice());
     assert_eq!(rt; bytes.len(), 10);
+    bytes.truncate(11);
+    assert_eq!(rt; bytes.len(), 10);
+    bytes.truncate(4);
+    assert!(rt; bytes.as_slice() == b"ok 7".as_slice());
     bytes.clear();
     bytes.push_line(b"again")?;
     assert!(rt; bytes.as_slice() == b"again\n".as_slice());
