@@ -1,15 +1,27 @@
-ghost use Rattle.std.specs.Prelude.{◌≡◌, ℕ, ◌<◌, ◌≤◌, ◌⊎◌, ◌↔◌, ◌||◌, All, IfSome, IsSome, IsTrue};
+ghost use Rattle.std.specs.Prelude.{◌≡◌, ℕ, ◌<◌, ◌≤◌, ◌⊎◌, ◌↔◌, ◌||◌, All, IfSome, IsSome, IsTrue, filter, map, ◌++◌};
+ghost use Rattle.std.specs.List.{range_with_len};
 ghost use Rattle.std.specs.List.Sorted.{IsStrictlyIncreasing};
 ghost use Rattle.catalog.specs.Classes.{is_building, is_ship, is_technology, is_unit};
 ghost use Rattle.catalog.specs.Combat.{attack_of, shield_of};
 ghost use Rattle.catalog.specs.Costs.{cost_of};
 ghost use Rattle.catalog.specs.Flight.{cargo_of, engine_of};
+ghost use Rattle.catalog.specs.Kinds.{kind_number};
 ghost use Rattle.catalog.specs.Levels.{growth_of, level_cap_of};
 ghost use Rattle.catalog.specs.Needs.{needs_of};
 ghost use Rattle.catalog.specs.RapidFire.{rapid_of};
 ghost use Rattle.catalog.specs.Storage.{storage_limits};
 ghost use Rattle.catalog.specs.declared.amounts.TheConstants.{CAP};
 ghost use Rattle.catalog.specs.declared.kind.Kind.{Kind};
+ghost use Rattle.catalog.specs.declared.kind.TheConstants.{KINDS};
+ghost use Rattle.catalog.specs.declared.ships.TheConstants.{SHIPS};
+
+/// The kinds are listed by number: 11 buildings from 1 on, 14 technologies from 21 on, 14 ships from 41 on and 8
+/// defences from 61 on. The ships that fly are listed in the same order. It does nothing: the laws are its contract.
+pub fn kinds_are_listed()
+    ensures numbers { map kind_number KINDS
+        ≡ range_with_len 1 11 ++ range_with_len 21 14 ++ range_with_len 41 14 ++ range_with_len 61 8 }
+    ensures ships { SHIPS ≡ filter is_ship KINDS }
+{}
 
 /// No first cost is above the cap. It does nothing: the laws are its contract.
 pub fn costs_are_capped()

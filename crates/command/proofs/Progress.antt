@@ -14,7 +14,7 @@ use Rattle.request_text.specs.LineReading.{Follows, Sees, kept}
 use Rattle.request_text.specs.declared.call.Call.{Call}
 use Rattle.request_text.specs.declared.entry.Entry.{Entry}
 use Rattle.request_text.specs.declared.line_reader.LineReader.{LineReader}
-use Rattle.tick_model.specs.Reply.{text}
+use Rattle.reply_text.specs.Heads.{text}
 use Rattle.request_text.specs.Grammar.{Spells}
 use Rattle.request_text.proofs.Spellings.{one_call}
 use Rattle.tick_model.specs.Step.{IsBuilt}

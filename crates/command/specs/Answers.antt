@@ -11,10 +11,10 @@ use Rattle.request_text.specs.declared.line_reader.LineReader.{LineReader}
 use Rattle.request_text.specs.LineReading.{Follows, Known, Sees, kept, taken}
 use Rattle.tick_model.specs.Asking.{Asks}
 use Rattle.tick_model.specs.History.{IsLegal}
-use Rattle.tick_model.specs.Reply.{text}
+use Rattle.reply_text.specs.Heads.{text}
 use Rattle.tick_model.specs.Talk.{AsksFor, AsksNothing, Talk, bad_line, long_line}
 use Rattle.tick_model.specs.Universe.{Universe}
-use Rattle.tick_model.specs.declared.reply.Reply.{Reply}
+use Rattle.reply_text.specs.declared.reply.Reply.{Reply}
 use Rattle.command.specs.declared.answering.Next.{Next}
 use Rattle.command.specs.declared.answering.Next.TheVariants.{Answered as LineAnswered, End, Fault, Spent, Memory}
 

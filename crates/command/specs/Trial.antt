@@ -4,7 +4,7 @@ use Rattle.std.specs.Fmt.{decimal}
 use Rattle.std.specs.Io.KnownBytes.{Appends}
 use Rattle.std.specs.Str.Lines.{lines}
 use Rattle.founding.specs.Founding.{Founds, IsBadAt, IsUnfinished}
-use Rattle.tick_model.specs.Reply.{line}
+use Rattle.reply_text.specs.Words.{line}
 use Rattle.tick_model.specs.Universe.{Universe}
 use Rattle.command.specs.Answers.{Answered, AnsweredPart, BrokeOff}
 use Rattle.command.specs.declared.status.TheConstants.{DONE, NOT_A_COMMAND, SOURCE_FAULT, SINK_FAULT, NO_MEMORY, TOO_LONG, NOT_FOUNDED}

@@ -12,9 +12,10 @@ use crate::status::{DONE, NO_MEMORY, SINK_FAULT, SOURCE_FAULT, TOO_LONG};
 use crate::streams::write_all;
 use base_text::Bytes;
 use ports::{Clock, Sink, Source};
+use reply_text::write_reply;
 use request_text::{Call, Line, LineReader};
 use std::alloc::{AllocError, Global};
-use tick_model::{StrictUniverse, is_built, write_reply};
+use tick_model::{StrictUniverse, is_built};
 
 /// What a line asks for. `None` exactly where it asks for nothing.
 fn asked_for(line: &[u8]) -> Option<Call>
@@ -62,7 +63,7 @@ fn answer_line<C: Clock>(
     };
     let reading = reading_of(&call, clock);
     let reply = ask(alloc, universe, call.player, &call.req, reading)?;
-    write_reply(alloc, &reply, out)?;
+    write_reply(out, &reply)?;
     Ok(())
 }
 

@@ -7,10 +7,11 @@ ghost use Rattle.tick_model.specs.Second.{planet_after};
 
 use base_ids::{Coord, Player};
 use rates::stocks_after;
+use reply_text::Reply;
 use request_text::Request;
 use std::alloc::{AllocError, Global};
 use tick_model::{
-    Planet, Reply, Rules, StrictUniverse, has_player, place_of, planet_at, show_planet,
+    Planet, Rules, StrictUniverse, has_player, place_of, planet_at, show_planet,
 };
 
 /// A planet so many seconds later, in constant time.

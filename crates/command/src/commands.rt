@@ -26,7 +26,7 @@ fn is_trial(words: &[String]) -> bool
 }
 
 /// The line that names the first bad line of a founding text.
-#[tactic(auto, unfolding(tick_model::specs::Reply::line))]
+#[tactic(auto, unfolding(reply_text::specs::Words::line))]
 fn bad_founding_line(alloc: Global, number: u64) -> Result<String, AllocError>
     ensures { IfOk result (λ text. string_bytes text ≡ bad_founding number) }
 {

@@ -5,7 +5,7 @@ use Rattle.request_text.proofs.Spellings.{one_call}
 use Rattle.request_text.specs.declared.call.Call.{Call}
 use Rattle.request_text.specs.declared.entry.Entry.{Entry}
 use Rattle.tick_model.specs.History.{MayFollow, IsLegalFrom}
-use Rattle.tick_model.specs.Reply.{text}
+use Rattle.reply_text.specs.Heads.{text}
 use Rattle.tick_model.specs.Talk.{Talk, nothing_left, long, bad, timed, clocked, AsksFor, AsksNothing, IsOf, bad_line, long_line}
 use Rattle.tick_model.specs.Universe.{Universe}
 use Rattle.tick_model.specs.World.{reply}

@@ -15,7 +15,7 @@ use Rattle.tick_model.specs.Asking.{Asks, brought}
 use Rattle.tick_model.specs.declared.acting.Acted.{Acted}
 use Rattle.tick_model.specs.Strict.{Comes}
 use Rattle.tick_model.specs.declared.rules.Rules.{Rules}
-use Rattle.tick_model.specs.declared.reply.Reply.{Reply}
+use Rattle.reply_text.specs.declared.reply.Reply.{Reply}
 use Rattle.tick_model.specs.Universe.{Own, of_nothing, of_account, of_planet, Universe, View, view}
 use Rattle.tick_model.specs.Step.{is_there, asked, shown, no_change, write, Outcome, refused, told, planet_outcome, outcome, Stepped, step}
 use Rattle.tick_model.specs.Reply.{planet_text}

@@ -7,7 +7,7 @@ use Rattle.rates.specs.Times.{times}
 use Rattle.tick_model.specs.Universe.{Universe}
 use Rattle.tick_model.specs.Second.{universe_second}
 use Rattle.tick_model.specs.Step.{step}
-use Rattle.tick_model.specs.declared.reply.Reply.{Reply}
+use Rattle.reply_text.specs.declared.reply.Reply.{Reply}
 use Rattle.tick_model.specs.History.{MayFollow, IsLegal, IsLegalFrom}
 use Rattle.tick_model.specs.Asking.{Asks, brought, entry_of}
 use Rattle.base_ids.specs.declared.player.Player.{Player}

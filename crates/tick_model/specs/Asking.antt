@@ -4,7 +4,7 @@ use Rattle.rates.specs.Times.{times}
 use Rattle.base_ids.specs.declared.player.Player.{Player}
 use Rattle.request_text.specs.declared.request.Request.{Request}
 use Rattle.request_text.specs.declared.entry.Entry.{Entry}
-use Rattle.tick_model.specs.declared.reply.Reply.{Reply}
+use Rattle.reply_text.specs.declared.reply.Reply.{Reply}
 use Rattle.tick_model.specs.Universe.{Universe}
 use Rattle.tick_model.specs.Second.{universe_second}
 use Rattle.tick_model.specs.Step.{step}

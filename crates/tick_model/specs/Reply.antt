@@ -1,42 +1,27 @@
--- What a request is answered, and how that is written. Rules: docs/PROTOCOL.md, "Answers".
-use Rattle.std.specs.Prelude.{ℕ, ◌==◌, List, [], ◌∷◌, ◌++◌, codes, if◌then◌else◌}
-use Rattle.std.specs.Fmt.{decimal, signed_decimal}
-use Rattle.base_ids.specs.Text.{coord_text, player_text}
+-- The lines that show a planet. Rule: docs/PROTOCOL.md, "The lines of a planet".
+use Rattle.std.specs.Prelude.{ℕ, List, ◌++◌}
 use Rattle.rates.specs.Stock.{hourly_yield, stored, whole}
 use Rattle.rates.specs.declared.resources.Resources.{Resources}
-use Rattle.tick_model.specs.declared.reply.Reply.{Reply}
+use Rattle.reply_text.specs.PlanetLines.{debris_line, energy_line, hourly_line, limit_line, planet_line, stock_line}
+use Rattle.reply_text.specs.declared.planet_lines.PlanetHead.{PlanetHead}
+use Rattle.reply_text.specs.declared.units.Units.{Units}
 use Rattle.tick_model.specs.declared.rules.Rules.{Rules}
 use Rattle.tick_model.specs.Universe.{PlanetFields}
 
--- words with one space between them, and a line feed
-unfoldable pub line : List (List ℕ) → List ℕ
-line [] = codes "\n"
-line (word ∷ []) = word ++ codes "\n"
-line (word ∷ next ∷ words) = word ++ (codes " " ++ line (next ∷ words))
+abbrev pub units_of : Resources → Units
+units_of amounts = record { metal = amounts.metal; crystal = amounts.crystal; deuterium = amounts.deuterium }
 
--- the line that names a planet, ending with the fields that are used
-abbrev pub planet_line : PlanetFields → List ℕ
-planet_line planet =
-    line (codes "planet" ∷ coord_text planet.at ∷ player_text planet.owner ∷ signed_decimal planet.temperature ∷ decimal planet.fields ∷ codes "0" ∷ [])
+-- what the first line shows: nothing is built yet, so no field is used
+abbrev pub head_of : PlanetFields → PlanetHead
+head_of planet = record { at = planet.at; owner = planet.owner; temperature = planet.temperature; fields = planet.fields; used = 0 }
 
--- a line of a name and a number of each resource
-abbrev pub amounts_line : List ℕ → Resources → List ℕ
-amounts_line name amounts = line (name ∷ decimal amounts.metal ∷ decimal amounts.crystal ∷ decimal amounts.deuterium ∷ [])
-
--- The lines that show a planet (docs/PROTOCOL.md, "The lines of a planet"): itself; in whole units its stocks, what it yields an hour and what it stores;
--- the energy given and needed; and the metal and crystal of its debris.
+-- The planet itself; in whole units its stocks, what it yields an hour and what it stores; the energy given and needed; and
+-- the metal and crystal of its debris.
 unfoldable pub planet_text : Rules → PlanetFields → List ℕ
 planet_text rules planet =
-    planet_line planet
-    ++ amounts_line (codes "stock") (whole planet.stock)
-    ++ amounts_line (codes "hourly") (hourly_yield rules.speed)
-    ++ amounts_line (codes "limit") stored
-    ++ line (codes "energy" ∷ codes "0" ∷ codes "0" ∷ [])
-    ++ line (codes "debris" ∷ codes "0" ∷ codes "0" ∷ [])
-
--- the text of a reply: `ok` with number and moment, the lines and a line `.`; or `no` with the code besides
-unfoldable pub text : Reply → List ℕ
-text reply =
-    if reply.code == 0
-    then line (codes "ok" ∷ decimal reply.number ∷ decimal reply.moment ∷ []) ++ reply.body ++ line (codes "." ∷ [])
-    else line (codes "no" ∷ decimal reply.number ∷ decimal reply.moment ∷ decimal reply.code ∷ [])
+    planet_line (head_of planet)
+    ++ stock_line (units_of (whole planet.stock))
+    ++ hourly_line (units_of (hourly_yield rules.speed))
+    ++ limit_line (units_of stored)
+    ++ energy_line 0 0
+    ++ debris_line 0 0

@@ -4,7 +4,8 @@ use Rattle.request_text.specs.Grammar.{Spells}
 use Rattle.request_text.specs.declared.call.Call.{Call}
 use Rattle.request_text.specs.declared.entry.Entry.{Entry}
 use Rattle.tick_model.specs.Universe.{Universe}
-use Rattle.tick_model.specs.Reply.{line, text}
+use Rattle.reply_text.specs.Heads.{text}
+use Rattle.reply_text.specs.Words.{line}
 use Rattle.tick_model.specs.Step.{IsBuilt}
 use Rattle.tick_model.specs.World.{reply}
 

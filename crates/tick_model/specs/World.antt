@@ -3,7 +3,7 @@ use Rattle.std.specs.Prelude.{ℕ, zero, suc, ◌+◌, ◌-◌, ◌==◌, List, 
 use Rattle.request_text.specs.declared.entry.Entry.{Entry}
 use Rattle.tick_model.specs.Universe.{Universe}
 use Rattle.tick_model.specs.Second.{universe_second}
-use Rattle.tick_model.specs.declared.reply.Reply.{Reply}
+use Rattle.reply_text.specs.declared.reply.Reply.{Reply}
 use Rattle.tick_model.specs.Step.{step}
 
 -- entries act in their order

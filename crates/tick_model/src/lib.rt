@@ -5,7 +5,6 @@
 mod acting;
 mod laws;
 mod planet;
-mod reply;
 mod rules;
 mod stock;
 mod strict;
@@ -15,11 +14,9 @@ mod writing;
 pub use acting::{Acted, NO_PLANET, NO_PLAYER, NOT_YOURS, is_built, place_of, show_planet};
 pub use laws::answer_once;
 pub use planet::Planet;
-pub use reply::Reply;
 pub use rules::Rules;
 pub use strict::{StrictUniverse, has_player, planet_at};
 pub use ticking::ask;
-pub use writing::write_reply;
 
 #[cfg(test)]
 mod tests;

@@ -1,10 +1,10 @@
 use crate::{
-    NO_PLANET, NO_PLAYER, NOT_YOURS, Planet, Reply, Rules, StrictUniverse, ask, is_built,
-    write_reply,
+    NO_PLANET, NO_PLAYER, NOT_YOURS, Planet, Rules, StrictUniverse, ask, is_built,
 };
 use base_ids::{Coord, Player};
 use base_text::Bytes;
 use rates::{GRAINS, Resources};
+use reply_text::Reply;
 use request_text::Call;
 use std::alloc::{AllocError, Global};
 use std::process::Abort;
@@ -87,30 +87,6 @@ fn each_call_has_the_next_number_and_no_moment_goes_back(rt: HostRuntime) -> Res
         assert_eq!(rt; reply.body.is_empty(), code != 0);
         assert_eq!(rt; (universe.number, universe.moment), (number, moment));
     }
-    Ok(())
-}
-
-#[test]
-fn granted_replies_have_lines_and_refusals_a_code(rt: HostRuntime) -> Result<(), Fail> {
-    let mut body = Bytes::new(rt.alloc());
-    body.push(b"energy 0 0\n")?;
-    let granted = Reply {
-        number: 7,
-        moment: 3600,
-        code: 0,
-        body,
-    };
-    let refused = Reply {
-        number: 8,
-        moment: 3601,
-        code: NOT_YOURS,
-        body: Bytes::new(rt.alloc()),
-    };
-    let mut out = Bytes::new(rt.alloc());
-    write_reply(rt.alloc(), &granted, &mut out)?;
-    write_reply(rt.alloc(), &refused, &mut out)?;
-    let want = b"ok 7 3600\nenergy 0 0\n.\nno 8 3601 3\n";
-    assert!(rt; out.as_slice() == want.as_slice());
     Ok(())
 }
 

@@ -6,10 +6,10 @@ ghost use Rattle.tick_model.specs.Strict.{fields_of, universe_of};
 
 use crate::acting::{place_of, show_planet};
 use crate::planet::Planet;
-use crate::reply::Reply;
 use crate::rules::Rules;
 use crate::strict::{StrictUniverse, has_player, planet_at};
 use base_ids::Player;
+use reply_text::Reply;
 use request_text::Request;
 use std::alloc::{AllocError, Global};
 

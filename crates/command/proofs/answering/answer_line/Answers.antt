@@ -1,6 +1,7 @@
 use Rattle.std.proofs.Common.{◌≡◌, ◌+◌, ◌≤◌, ◌++◌, ◌∷◌, [], ◌∙◌, ap, sym, arith, inl, inr, refl}
 use Rattle.std.specs.Prelude.{codes}
-use Rattle.tick_model.specs.Reply.{line, text}
+use Rattle.reply_text.specs.Heads.{text}
+use Rattle.reply_text.specs.Words.{line}
 use Rattle.tick_model.specs.Strict.{universe_of}
 use Rattle.tick_model.specs.Universe.{Universe}
 use Rattle.tick_model.proofs.Worlds.{asked-number}
@@ -48,5 +49,5 @@ returns-clause-turns g c =
       asks = c.in-Some.ensures;
       came = c.reading_of-reading.ensures.came;
       asked = c.in_ok-reply.ensures.ok;
-      text_is = c.in_ok-write_reply.ensures ∙ ap (λ before. before ++ text c.in_ok-reply.reply) c.clear.ensures;
+      text_is = c.in_ok-write_reply.ensures.ok ∙ ap (λ before. before ++ text c.in_ok-reply.reply) c.clear.ensures;
     }))

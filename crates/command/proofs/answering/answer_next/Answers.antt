@@ -2,7 +2,7 @@ use Rattle.std.proofs.Common.{◌≡◌, ◌++◌, ◌∷◌, [], ◌∙◌, ap,
 use Rattle.std.specs.Prelude.{codes}
 use Rattle.request_text.proofs.LineKnowing.{known-map}
 use Rattle.request_text.specs.LineReading.{Sees, Follows, told}
-use Rattle.tick_model.specs.Reply.{line}
+use Rattle.reply_text.specs.Words.{line}
 use Rattle.tick_model.specs.Strict.{universe_of}
 use Rattle.command.specs.Answers.{Turns}
 use Rattle.command.proofs.answering.answer_next.Goals as goal
