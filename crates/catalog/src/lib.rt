@@ -28,8 +28,8 @@ pub use settings::{Count, SpeedSetting, Tenths};
 pub use ships::{SHIPS, Ships, UNITS};
 pub use storage::storage_limit;
 pub use table_laws::{
-    costs_are_capped, kinds_are_listed, levels_are_in_range, needs_can_be_met, ships_fire_rapidly, ships_fly,
-    stores_grow, units_fight,
+    costs_are_capped, kinds_are_listed, levels_are_in_range, needs_can_be_met, ships_fire_rapidly,
+    ships_fly, stores_grow, units_fight,
 };
 
 #[cfg(test)]

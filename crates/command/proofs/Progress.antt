@@ -1,5 +1,5 @@
 -- How far the answers to a script have come.
-use Rattle.std.proofs.Common.{◌≡◌, ℕ, ◌+◌, ◌≤◌, ◌<◌, true, List, [], ◌∷◌, ◌++◌, None, Some, Option, length, take, inl, inr, arith, refl, ap, ◌∙◌, sym, subst, append_assoc}
+use Rattle.std.proofs.Common.{◌≡◌, ℕ, ◌+◌, ◌≤◌, true, List, [], ◌∷◌, ◌++◌, None, Some, Option, length, take, inl, inr, arith, refl, ap, ◌∙◌, sym, subst}
 use Rattle.std.specs.Prelude.{Result, Ok, Err, OnErr}
 use Rattle.std.proofs.lemmas.List.{append-nil, take_all}
 use Rattle.std.proofs.Math.Seq.{take-append-add}
@@ -7,9 +7,9 @@ use Rattle.std.proofs.KnownBytes.{Appends-nil, Appends-trans}
 use Rattle.std.specs.Io.KnownBytes.{Appends}
 use Rattle.std.specs.Str.Lines.{lines}
 use Rattle.base_text.specs.Parts.{Lacks}
-use Rattle.ports.specs.Readings.{TellsReading, TellsReadings}
+use Rattle.ports.specs.Readings.{TellsReadings}
 use Rattle.ports.proofs.Tellings.{tells-all, tells-more, tells-none}
-use Rattle.request_text.proofs.LineHearing.{Heard, Pends, heard-all, heard-line, heard-lines, heard-start, pends}
+use Rattle.request_text.proofs.LineHearing.{Heard, heard-all, heard-line, heard-lines, heard-start, pends}
 use Rattle.request_text.specs.LineReading.{Follows, Sees, kept}
 use Rattle.request_text.specs.declared.call.Call.{Call}
 use Rattle.request_text.specs.declared.entry.Entry.{Entry}

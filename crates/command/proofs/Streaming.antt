@@ -1,5 +1,5 @@
 -- Bytes that come and go in pieces.
-use Rattle.std.proofs.Common.{◌≡◌, ℕ, ◌+◌, ◌-◌, ◌≤◌, ◌<◌, List, [], ◌∷◌, get_or, ◌++◌, length, take, drop, length-append, arith, ap, ◌∙◌, sym, append_assoc}
+use Rattle.std.proofs.Common.{◌≡◌, ℕ, ◌-◌, ◌≤◌, ◌<◌, List, [], ◌∷◌, get_or, ◌++◌, length, take, drop, arith, ap, ◌∙◌, sym, append_assoc}
 use Rattle.std.proofs.lemmas.List.{take_all, take-append-drop, length-drop}
 use Rattle.std.proofs.Math.Seq.{take-append_seam}
 

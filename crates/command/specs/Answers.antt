@@ -1,5 +1,5 @@
 -- How the lines of a script are answered. Rules: docs/PROTOCOL.md, "The script" and "Answers".
-use Rattle.std.specs.Prelude.{◌≡◌, ℕ, ◌+◌, ◌-◌, ◌^◌, ◌<◌, ◌≤◌, ◌⊎◌, List, [], ◌∷◌, ◌++◌, length, take, Option, None, Some, ⊤}
+use Rattle.std.specs.Prelude.{◌≡◌, ℕ, ◌^◌, ◌<◌, ◌≤◌, ◌⊎◌, List, [], ◌++◌, length, take, Option, None, Some, ⊤}
 use Rattle.std.specs.Io.KnownBytes.{Appends}
 use Rattle.std.specs.Str.Lines.{lines}
 use Rattle.base_text.specs.Parts.{Lacks}
@@ -8,7 +8,7 @@ use Rattle.ports.specs.Readings.{TellsReading, TellsReadings}
 use Rattle.request_text.specs.declared.call.Call.{Call}
 use Rattle.request_text.specs.declared.entry.Entry.{Entry}
 use Rattle.request_text.specs.declared.line_reader.LineReader.{LineReader}
-use Rattle.request_text.specs.LineReading.{Follows, Known, Sees, kept, taken}
+use Rattle.request_text.specs.LineReading.{Follows, Sees, kept, taken}
 use Rattle.tick_model.specs.Asking.{Asks}
 use Rattle.tick_model.specs.History.{IsLegal}
 use Rattle.reply_text.specs.Heads.{text}

@@ -10,9 +10,7 @@ use rates::stocks_after;
 use reply_text::Reply;
 use request_text::Request;
 use std::alloc::{AllocError, Global};
-use tick_model::{
-    Planet, Rules, StrictUniverse, has_player, place_of, planet_at, show_planet,
-};
+use tick_model::{Planet, Rules, StrictUniverse, has_player, place_of, planet_at, show_planet};
 
 /// A planet so many seconds later, in constant time.
 #[tactic(auto, using(tick_model::proofs::Standing::planets_later))]

@@ -13,7 +13,7 @@ pub const SINK_FAULT: u8 = 5;
 /// Memory ran out.
 pub const NO_MEMORY: u8 = 7;
 
-/// The input was too long.
+/// As many bytes were taken from the source as may be, 2^40, and no end was seen.
 pub const TOO_LONG: u8 = 9;
 
 /// The input does not begin with a founding text.

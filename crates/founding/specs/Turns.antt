@@ -1,5 +1,5 @@
 -- What the next line does to a draft. No public clause cites this file.
-use Rattle.std.specs.Prelude.{◌≡◌, ◌≢◌, ℕ, List, ◌∷◌, codes, ⊤}
+use Rattle.std.specs.Prelude.{◌≡◌, ◌≢◌, ℕ, List, codes, ⊤}
 use Rattle.std.specs.Str.Lines.{lines}
 use Rattle.base_text.specs.Parts.{Lacks}
 use Rattle.request_text.specs.LineReading.{Follows, Sees, kept}

@@ -1,5 +1,5 @@
 -- The words of calls, read one by one.
-use Rattle.std.proofs.Common.{◌≡◌, ℕ, ◌<◌, ◌^◌, Bool, true, false, List, [], ◌∷◌, get_or, length, refl, sym, ap, ◌∙◌, subst, arith, eqb, ne_eqb, decimal}
+use Rattle.std.proofs.Common.{◌≡◌, ℕ, ◌<◌, ◌^◌, Bool, true, false, List, [], ◌∷◌, refl, sym, ap, ◌∙◌, subst, arith, ne_eqb, decimal}
 use Rattle.std.specs.Prelude.{Option, Some, None, MatchOption, IsNone, IsSomeAnd, ◌&&◌}
 use Rattle.base_text.specs.Parts.{Lacks, words}
 use Rattle.base_text.proofs.Lacking.{decimal_lacks_at}

@@ -1,5 +1,5 @@
 -- Each request has one spelling, and each spelling is of one request.
-use Rattle.std.proofs.Common.{◌≡◌, ◌≢◌, ℕ, ◌≤◌, ◌<◌, ◌^◌, Bool, true, false, eqb, List, [], ◌∷◌, ◌++◌, arith, ap, refl, ◌∙◌, sym, subst, decimal, codes, append_assoc}
+use Rattle.std.proofs.Common.{◌≡◌, ℕ, ◌<◌, ◌^◌, Bool, true, false, eqb, List, [], ◌∷◌, arith, ap, refl, ◌∙◌, sym, subst, decimal, codes}
 use Rattle.std.specs.Prelude.{Option, Some, None}
 use Rattle.std.specs.Option.{ForSome}
 use Rattle.std.specs.Coded.{le_prop}
@@ -7,7 +7,7 @@ use Rattle.std.specs.List.{AllByRecursion, join_with_byte}
 use Rattle.std.proofs.lemmas.Fmt.{decimal_injective}
 use Rattle.base_text.specs.Parts.{Lacks, words}
 use Rattle.base_text.proofs.Joining.{parts-join_with_byte, three_once}
-use Rattle.base_text.proofs.Lacking.{decimal_lacks_at, decimal_lacks_space, lacks-append, lacks-cons, lacks-nil}
+use Rattle.base_text.proofs.Lacking.{decimal_lacks_space, lacks-append, lacks-cons, lacks-nil}
 use Rattle.base_text.proofs.Splitting.{join-parts}
 use Rattle.base_ids.proofs.Names.{coord_is, fleet_is, player_is, system_is}
 use Rattle.base_ids.specs.Text.{coord_text, player_text, system_text}
@@ -15,32 +15,25 @@ use Rattle.base_ids.specs.declared.coord.Coord.{Coord}
 use Rattle.base_ids.specs.declared.fleet_number.FleetNumber.{FleetNumber}
 use Rattle.base_ids.specs.declared.player.Player.{Player}
 use Rattle.base_ids.specs.declared.system.System.{System as SystemId}
-use Rattle.catalog.proofs.Values.{amounts_is, building_is, count_is, setting_is, ships_is, technology_is, tenths_is, unit_is, work_is}
+use Rattle.catalog.proofs.Values.{amounts_is, building_is, count_is, setting_is, technology_is, tenths_is, unit_is, work_is}
 use Rattle.catalog.proofs.Words.{word_once}
 use Rattle.catalog.specs.Kinds.{kind_word}
 use Rattle.catalog.specs.Missions.{mission_word}
-use Rattle.catalog.specs.Texts.{ship_part, ship_parts, ships_text}
+use Rattle.catalog.specs.Texts.{ships_text}
 use Rattle.catalog.specs.declared.kind.Kind.{Kind}
 use Rattle.catalog.specs.declared.amounts.Amounts.{Amounts}
-use Rattle.catalog.specs.declared.classes.Building.{Building}
-use Rattle.catalog.specs.declared.classes.Technology.{Technology}
-use Rattle.catalog.specs.declared.classes.Unit.{Unit as UnitKind}
-use Rattle.catalog.specs.declared.classes.Work.{Work}
 use Rattle.catalog.specs.declared.mission.Mission.{Mission}
 use Rattle.catalog.specs.declared.mission.Mission.TheVariants.{Transport, Deploy, Harvest, Attack}
 use Rattle.catalog.specs.declared.settings.Count.{Count}
 use Rattle.catalog.specs.declared.settings.SpeedSetting.{SpeedSetting}
 use Rattle.catalog.specs.declared.settings.Tenths.{Tenths}
 use Rattle.catalog.specs.declared.ships.Ships.{Ships}
-use Rattle.catalog.specs.declared.ships.TheConstants.{SHIPS}
 use Rattle.request_text.specs.Flights.{flight_words}
 use Rattle.request_text.specs.Forms.{form_word}
-use Rattle.request_text.specs.Grammar.{MayName, Spells, call_words, timed_words}
+use Rattle.request_text.specs.Grammar.{Spells, call_words, timed_words}
 use Rattle.request_text.specs.Timing.{is_timed}
 use Rattle.request_text.specs.Words.{argument_words, form_of, request_text, request_words}
 use Rattle.request_text.specs.declared.call.Call.{Call}
-use Rattle.request_text.specs.declared.form.Form.{Form}
-use Rattle.request_text.specs.declared.form.Form.TheVariants as F
 use Rattle.request_text.specs.declared.request.Request.{Request}
 use Rattle.request_text.specs.declared.request.Request.TheVariants.{Planet, Account, Fleets, System, Build, Research, Yard, Set, Send, Join, Recall}
 use Rattle.request_text.proofs.Calls.{player_untimed}

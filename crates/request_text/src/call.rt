@@ -27,7 +27,7 @@ impl Call {
 
     /// The call that a line spells: `K REQUEST`, or in a script also `@R K REQUEST`. `None` exactly where it spells none.
     ///
-    /// It takes no memory, and reads each byte once.
+    /// It takes no memory, and reads each byte a bounded number of times.
     pub fn read(line: &[u8], script: bool) -> Option<Call>
         ensures { MatchOption result (IsOutside script line.now) (Spells script line.now) }
     {

@@ -45,7 +45,9 @@ impl Request {
     ghost use Rattle.request_text.specs.Words.{form_of, request_text, request_words};
     ghost use Rattle.request_text.specs.declared.request.Request.{Request};
 
-    /// The request that a text spells. `None` exactly where it spells none. It takes no memory, and reads each byte once.
+    /// The request that a text spells. `None` exactly where it spells none.
+    ///
+    /// It takes no memory, and reads each byte a bounded number of times.
     pub fn read(line: &[u8]) -> Option<Request>
         ensures { MatchOption result
             ((req : Request) → words line.now ≡ request_words req → ⊥)

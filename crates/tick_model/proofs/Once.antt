@@ -1,12 +1,12 @@
 -- A script has one history and one text of answers, for the readings that the clock told.
-use Rattle.std.proofs.Common.{◌≡◌, ℕ, ◌<◌, ◌≤◌, max, List, [], ◌∷◌, ◌++◌, length, refl, ap, ◌∙◌, sym, subst, arith, true}
-use Rattle.std.specs.Prelude.{Option, None, Some}
+use Rattle.std.proofs.Common.{◌≡◌, ℕ, max, List, [], ◌∷◌, ◌++◌, refl, ap, ◌∙◌, sym, subst, arith, true}
+use Rattle.std.specs.Prelude.{None, Some}
 use Rattle.request_text.proofs.Spellings.{one_call}
 use Rattle.request_text.specs.declared.call.Call.{Call}
 use Rattle.request_text.specs.declared.entry.Entry.{Entry}
 use Rattle.tick_model.specs.History.{MayFollow, IsLegalFrom}
 use Rattle.reply_text.specs.Heads.{text}
-use Rattle.tick_model.specs.Talk.{Talk, nothing_left, long, bad, timed, clocked, AsksFor, AsksNothing, IsOf, bad_line, long_line}
+use Rattle.tick_model.specs.Talk.{Talk, nothing_left, long, bad, timed, clocked, AsksFor, IsOf, bad_line, long_line}
 use Rattle.tick_model.specs.Universe.{Universe}
 use Rattle.tick_model.specs.World.{reply}
 

@@ -1,5 +1,5 @@
 -- What is answered to the lines of a script. Rules: docs/PROTOCOL.md, "The script" and "Answers".
-use Rattle.std.specs.Prelude.{◌≡◌, ℕ, ◌<◌, ◌≤◌, true, List, [], ◌∷◌, ◌++◌, length, codes, Option, None, Some}
+use Rattle.std.specs.Prelude.{◌≡◌, ℕ, ◌<◌, ◌≤◌, true, List, [], ◌∷◌, ◌++◌, length, codes, None, Some}
 use Rattle.request_text.specs.Grammar.{Spells}
 use Rattle.request_text.specs.declared.call.Call.{Call}
 use Rattle.request_text.specs.declared.entry.Entry.{Entry}

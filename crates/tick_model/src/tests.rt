@@ -1,6 +1,4 @@
-use crate::{
-    NO_PLANET, NO_PLAYER, NOT_YOURS, Planet, Rules, StrictUniverse, ask, is_built,
-};
+use crate::{NO_PLANET, NO_PLAYER, NOT_YOURS, Planet, Rules, StrictUniverse, ask, is_built};
 use base_ids::{Coord, Player};
 use base_text::Bytes;
 use rates::{GRAINS, Resources};

@@ -1,8 +1,7 @@
-use Rattle.std.proofs.Common.{◌≡◌, ◌+◌, ◌≤◌, ◌++◌, ◌∷◌, [], ◌∙◌, ap, sym, arith, inl, inr, refl}
+use Rattle.std.proofs.Common.{◌++◌, ◌∷◌, [], ◌∙◌, ap, arith, inl, inr, refl}
 use Rattle.std.specs.Prelude.{codes}
 use Rattle.reply_text.specs.Heads.{text}
 use Rattle.reply_text.specs.Words.{line}
-use Rattle.tick_model.specs.Strict.{universe_of}
 use Rattle.tick_model.specs.Universe.{Universe}
 use Rattle.tick_model.proofs.Worlds.{asked-number}
 use Rattle.command.proofs.Progress.{came-few, on_err}

@@ -1,7 +1,7 @@
-use Rattle.std.proofs.Common.{◌≡◌, ◌+◌, ◌≤◌, [], List, ℕ, arith, length, refl, subst, take, ◌∙◌}
+use Rattle.std.proofs.Common.{◌≡◌, ◌+◌, [], List, ℕ, arith, length, refl, subst, take, ◌∙◌}
 use Rattle.std.specs.Io.KnownBytes.{Appends}
 use Rattle.std.specs.Str.Lines.{lines}
-use Rattle.request_text.proofs.LineKnowing.{known-map, known-same, known-then}
+use Rattle.request_text.proofs.LineKnowing.{known-same, known-then}
 use Rattle.request_text.specs.LineReading.{Sees, taken}
 use Rattle.tick_model.specs.Strict.{universe_of}
 use Rattle.command.specs.Answers.{Answered, AnsweredPart, BrokeOff}

@@ -1,7 +1,7 @@
-use Rattle.std.proofs.Common.{◌≡◌, ◌++◌, ◌∷◌, [], ◌∙◌, ap, inl, inr, refl, subst, List, ℕ}
+use Rattle.std.proofs.Common.{◌++◌, ◌∷◌, [], ◌∙◌, ap, inl, refl, subst, List, ℕ}
 use Rattle.std.specs.Prelude.{codes}
 use Rattle.request_text.proofs.LineKnowing.{known-map}
-use Rattle.request_text.specs.LineReading.{Sees, Follows, told}
+use Rattle.request_text.specs.LineReading.{told}
 use Rattle.reply_text.specs.Words.{line}
 use Rattle.tick_model.specs.Strict.{universe_of}
 use Rattle.command.specs.Answers.{Turns}

@@ -1,5 +1,4 @@
-use Rattle.std.proofs.Common.{◌≡◌, ◌⊎◌, [], List, ℕ, inl, inr, refl}
-use Rattle.std.specs.Str.Lines.{lines}
+use Rattle.std.proofs.Common.{◌⊎◌, inl, inr, refl}
 use Rattle.request_text.proofs.LineKnowing.{known-map, known-then}
 use Rattle.tick_model.specs.Strict.{universe_of}
 use Rattle.command.specs.Trial.{Refused, RefusedBroken, Tried, TriedBroken, TriedPart, Unfounded}

@@ -1,4 +1,4 @@
-use Rattle.std.proofs.Common.{◌≡◌, ℕ, sym, ◌∙◌, rules}
+use Rattle.std.proofs.Common.{◌≡◌, rules}
 use Rattle.catalog.specs.Kinds.{kind_word}
 use Rattle.request_text.proofs.Counting.{after_part, bad_number, good_number, no_sign, other_word}
 use Rattle.request_text.proofs.ship_counts.next_ship_count.Goals as goal

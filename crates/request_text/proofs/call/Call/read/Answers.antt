@@ -1,8 +1,8 @@
-use Rattle.std.proofs.Common.{◌≡◌, true, false, sym, ap, ◌∙◌, subst, refl}
+use Rattle.std.proofs.Common.{◌≡◌, true, sym, ap, ◌∙◌, subst}
 use Rattle.std.specs.Prelude.{◌&&◌}
 use Rattle.base_text.specs.Parts.{words}
 use Rattle.request_text.specs.Timing.{is_timed}
-use Rattle.request_text.proofs.Calls.{ReadsTimed, ReadsUntimed, read_timed, read_untimed}
+use Rattle.request_text.proofs.Calls.{ReadsTimed, read_timed}
 use Rattle.request_text.proofs.call.Call.read.Goals as goal
 
 pub returns-then-names_reading : goal.returns-then-names_reading
