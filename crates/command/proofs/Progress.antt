@@ -171,7 +171,7 @@ come-part reader reader' left more base now whole t0 t1 t2 w0 w1 before told see
 
 -- memory ran out, and the clock may have told a reading
 pub come-stopped : (reader : LineReader) (left : List ℕ) (base now : Universe) (whole : List ℕ) (t0 t1 t2 w0 w1 : Option (List ℕ)) → Come reader left base now whole t0 t1 w0 w1 → TellsAtMostOne t1 t2 → BrokeOff base (lines whole) t0 t2 w0 w1
-come-stopped reader left base now whole t0 t1 t2 w0 w1 before tolls =
+come-stopped reader left base now whole t0 t1 t2 w0 w1 before one_more =
     let progress = before.progress in
     let enough : length progress.bytes ≤ length progress.bytes = omega arith in
     record {
@@ -180,12 +180,12 @@ come-stopped reader left base now whole t0 t1 t2 w0 w1 before tolls =
       parts = heard-lines whole before.rest before.done before.heard;
       history = progress.history;
       readings = progress.readings;
-      extra = tolls.readings;
+      extra = one_more.readings;
       bytes = progress.bytes;
       legal = progress.stands.legal;
       talk = told-all base progress.history before.done progress.readings progress.bytes progress.told;
-      few = tolls.few;
-      tells = tells-all t0 t1 t2 progress.readings tolls.readings progress.tells tolls.tells;
+      few = one_more.few;
+      tells = tells-all t0 t1 t2 progress.readings one_more.readings progress.tells one_more.tells;
       count = length progress.bytes;
       wrote = subst (Appends w0 w1) (sym (take_all (length progress.bytes) progress.bytes enough)) progress.wrote;
     }

@@ -65,12 +65,12 @@ Goes reader left reader' more old new told_before told_after out Spent = ((text 
 Goes reader left reader' more old new told_before told_after out Memory = ⊤
 
 -- what the clock told where no line was answered
-abbrev pub Tolls : Option (List ℕ) → Option (List ℕ) → Next → Type 0
-Tolls before after LineAnswered = ⊤
-Tolls before after End = after ≡ before
-Tolls before after Fault = after ≡ before
-Tolls before after Spent = after ≡ before
-Tolls before after Memory = TellsAtMostOne before after
+abbrev pub ToldAtEnd : Option (List ℕ) → Option (List ℕ) → Next → Type 0
+ToldAtEnd before after LineAnswered = ⊤
+ToldAtEnd before after End = after ≡ before
+ToldAtEnd before after Fault = after ≡ before
+ToldAtEnd before after Spent = after ≡ before
+ToldAtEnd before after Memory = TellsAtMostOne before after
 
 -- an answered line brings the reader nearer to its end
 abbrev pub IsNearer : ℕ → ℕ → Next → Type 0

@@ -3,7 +3,7 @@ ghost use Rattle.std.specs.Str.Lines.{lines as text_lines};
 ghost use Rattle.ports.specs.Causes.{Rose};
 ghost use Rattle.request_text.specs.LineReading.{Known, Sees, ahead, taken};
 ghost use Rattle.request_text.specs.declared.call.Call.{Call};
-ghost use Rattle.command.specs.Answers.{Answered, AnsweredPart, BrokeOff, CameAt, Goes, HasReason, IsNearer, TellsAtMostOne, Tolls, Turns};
+ghost use Rattle.command.specs.Answers.{Answered, AnsweredPart, BrokeOff, CameAt, Goes, HasReason, IsNearer, TellsAtMostOne, ToldAtEnd, Turns};
 ghost use Rattle.tick_model.specs.Strict.{universe_of};
 ghost use Rattle.tick_model.specs.Talk.{AsksFor, AsksNothing};
 
@@ -91,7 +91,7 @@ fn answer_next<S: Source, C: Clock>(
     ensures goes { Known (S.left source.old) (S.left source.new) (λ left more.
         Goes lines.old left lines.new more (universe_of universe.old) (universe_of universe.new) (C.told clock.old) (C.told clock.new)
         out.new result) }
-    ensures tolls { Tolls (C.told clock.old) (C.told clock.new) result }
+    ensures told { ToldAtEnd (C.told clock.old) (C.told clock.new) result }
     ensures nearer { IsNearer (ahead lines.old) (ahead lines.new) result }
     ensures reason { HasReason (S.faults source.old) (S.faults source.new) lines.new result }
     ensures faults { S.faults source.old ≤ S.faults source.new }

@@ -32,7 +32,7 @@ returns-in-End-clause-done g c = λ is.
     let w0 = written c.args.sink.now in
     let w1 = written c.script.sink in
     known-then (left c.args.source.now) (left c.script.source) (left c.answer_next.new.source) _ _ (λ x z. (text : List ℕ) → Sees c.args.lines.now x text → (z ≡ []) × Answered base (lines text) t0 t2 w0 w1)
-    (λ x y z first goes text sees. let before = first text sees in come-end old y z base now text t0 t1 t2 w0 w1 before c.in-End.ensures.tolls (goes before.rest before.sees)) c.script.invariant.come c.in-End.ensures.goes
+    (λ x y z first goes text sees. let before = first text sees in come-end old y z base now text t0 t1 t2 w0 w1 before c.in-End.ensures.told (goes before.rest before.sees)) c.script.invariant.come c.in-End.ensures.goes
 
 pub returns-in-Fault-clause-partly :
     goal.returns-in-Fault-clause-partly
@@ -50,7 +50,7 @@ returns-in-Fault-clause-partly g c = λ is.
     let w0 = written c.args.sink.now in
     let w1 = written c.script.sink in
     known-then (left c.args.source.now) (left c.script.source) (left c.answer_next.new.source) _ _ (λ x z. (text : List ℕ) → Sees c.args.lines.now x text → AnsweredPart base text z t0 t2 w0 w1)
-    (λ x y z first goes text sees. let before = first text sees in come-part old new y z base now text t0 t1 t2 w0 w1 before c.in-Fault.ensures.tolls (goes.0 before.rest before.sees) goes.1) c.script.invariant.come c.in-Fault.ensures.goes
+    (λ x y z first goes text sees. let before = first text sees in come-part old new y z base now text t0 t1 t2 w0 w1 before c.in-Fault.ensures.told (goes.0 before.rest before.sees) goes.1) c.script.invariant.come c.in-Fault.ensures.goes
 
 pub returns-in-Spent-clause-partly :
     goal.returns-in-Spent-clause-partly
@@ -68,7 +68,7 @@ returns-in-Spent-clause-partly g c = λ is.
     let w0 = written c.args.sink.now in
     let w1 = written c.script.sink in
     known-then (left c.args.source.now) (left c.script.source) (left c.answer_next.new.source) _ _ (λ x z. (text : List ℕ) → Sees c.args.lines.now x text → AnsweredPart base text z t0 t2 w0 w1)
-    (λ x y z first goes text sees. let before = first text sees in come-part old new y z base now text t0 t1 t2 w0 w1 before c.in-Spent.ensures.tolls (goes.0 before.rest before.sees) goes.1) c.script.invariant.come c.in-Spent.ensures.goes
+    (λ x y z first goes text sees. let before = first text sees in come-part old new y z base now text t0 t1 t2 w0 w1 before c.in-Spent.ensures.told (goes.0 before.rest before.sees) goes.1) c.script.invariant.come c.in-Spent.ensures.goes
 
 pub returns-in-Memory-clause-broke_off :
     goal.returns-in-Memory-clause-broke_off
@@ -86,7 +86,7 @@ returns-in-Memory-clause-broke_off g c = λ is.
     let w0 = written c.args.sink.now in
     let w1 = written c.script.sink in
     known-then (left c.args.source.now) (left c.script.source) (left c.answer_next.new.source) _ _ (λ x z. (text : List ℕ) → Sees c.args.lines.now x text → BrokeOff base (lines text) t0 t2 w0 w1)
-    (λ x y z first goes text sees. let before = first text sees in come-stopped old y base now text t0 t1 t2 w0 w1 before c.in-Memory.ensures.tolls) c.script.invariant.come c.in-Memory.ensures.goes
+    (λ x y z first goes text sees. let before = first text sees in come-stopped old y base now text t0 t1 t2 w0 w1 before c.in-Memory.ensures.told) c.script.invariant.come c.in-Memory.ensures.goes
 
 pub returns-in_default-clause-broke_off :
     goal.returns-in_default-clause-broke_off
