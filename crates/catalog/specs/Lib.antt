@@ -9,3 +9,4 @@ pub mod Flight
 pub mod Needs
 pub mod RapidFire
 pub mod Storage
+pub mod Technologies

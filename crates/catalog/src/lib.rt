@@ -15,6 +15,7 @@ mod settings;
 mod ships;
 mod storage;
 mod table_laws;
+mod techs;
 
 pub use amounts::{Amounts, CAP};
 pub use classes::{Building, Technology, Unit, Work};
@@ -31,6 +32,7 @@ pub use table_laws::{
     costs_are_capped, kinds_are_listed, levels_are_in_range, needs_can_be_met, ships_fire_rapidly,
     ships_fly, stores_grow, units_fight,
 };
+pub use techs::Techs;
 
 #[cfg(test)]
 mod table_tests;

@@ -1,6 +1,6 @@
 use crate::{
-    Amounts, Building, Count, KINDS, Kind, Mission, SHIPS, Ships, SpeedSetting, Technology, Tenths,
-    Unit, Work,
+    Amounts, Building, Count, KINDS, Kind, Mission, SHIPS, Ships, SpeedSetting, Technology, Techs,
+    Tenths, Unit, Work,
 };
 use std::test::Fail;
 
@@ -242,4 +242,23 @@ fn amounts_are_written_as_metal_crystal_deuterium(rt: HostRuntime) -> Result<(),
     let text = format!(in rt.alloc(); "{amounts}")?;
     assert_eq!(rt; text.as_str(), "4000000000000 0 17");
     Ok(())
+}
+
+#[test]
+fn the_first_level_is_that_of_energy_and_the_last_that_of_graviton(rt: HostRuntime) {
+    let techs = Techs {
+        n: [1, 2, 3, 4, 5, 6, 7, 8, 9, 10, 11, 12, 13, 14],
+    };
+    for (kind, want) in [
+        (Kind::Energy, 1),
+        (Kind::Combustion, 6),
+        (Kind::Armour, 13),
+        (Kind::Graviton, 14),
+    ] {
+        if kind.is_technology() {
+            assert_eq!(rt; techs.level(Technology { kind }), want);
+        } else {
+            assert!(rt; false);
+        }
+    }
 }

@@ -1,0 +1,12 @@
+//! Whole numbers of up to 128 bits: quotients rounded down and up, and whole square roots. Nothing here takes
+//! memory or refuses.
+#![tactic(auto)]
+
+mod division;
+mod root;
+
+pub use division::{ceiling, floor};
+pub use root::isqrt;
+
+#[cfg(test)]
+mod tests;

@@ -1,0 +1,20 @@
+ghost use Rattle.std.specs.Prelude.{◌≡◌, length};
+ghost use Rattle.catalog.specs.Technologies.{level_in};
+
+use crate::classes::Technology;
+
+/// The levels of an account's technologies, in the order of their numbers: energy is the first, graviton the last.
+#[derive(Clone, Copy, Debug, PartialEq, Eq)]
+pub struct Techs {
+    pub n: [u8; 14],
+    pub ghost kinds: { length n ≡ 14 },
+}
+
+impl Techs {
+    /// The level of a technology.
+    pub fn level(&self, technology: Technology) -> u8
+        ensures { result ≡ level_in self.now.n technology.kind }
+    {
+        self.n[usize::from(technology.kind.number() - 21)]
+    }
+}
