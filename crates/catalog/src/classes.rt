@@ -80,6 +80,32 @@ impl fmt::Display for Technology {
     }
 }
 
+/// The kinds of units, by number: the ships, the satellite and the defences.
+pub const UNIT_KINDS: [Kind; 22] = [
+    Kind::SmallCargo,
+    Kind::LargeCargo,
+    Kind::LightFighter,
+    Kind::HeavyFighter,
+    Kind::Cruiser,
+    Kind::Battleship,
+    Kind::Battlecruiser,
+    Kind::Bomber,
+    Kind::Destroyer,
+    Kind::Deathstar,
+    Kind::Recycler,
+    Kind::ColonyShip,
+    Kind::Probe,
+    Kind::Satellite,
+    Kind::Launcher,
+    Kind::LightLaser,
+    Kind::HeavyLaser,
+    Kind::Gauss,
+    Kind::IonCannon,
+    Kind::PlasmaTurret,
+    Kind::SmallDome,
+    Kind::LargeDome,
+];
+
 /// A kind that a yard builds: a ship, the satellite or a defence. Its text is the word of the kind.
 #[derive(Clone, Copy, Debug, PartialEq, Eq, PartialOrd, Ord)]
 pub struct Unit {

@@ -11,16 +11,19 @@ ghost use Rattle.catalog.specs.Needs.{needs_of};
 ghost use Rattle.catalog.specs.RapidFire.{rapid_of};
 ghost use Rattle.catalog.specs.Storage.{storage_limits};
 ghost use Rattle.catalog.specs.declared.amounts.TheConstants.{CAP};
+ghost use Rattle.catalog.specs.declared.classes.TheConstants.{UNIT_KINDS};
 ghost use Rattle.catalog.specs.declared.kind.Kind.{Kind};
 ghost use Rattle.catalog.specs.declared.kind.TheConstants.{KINDS};
 ghost use Rattle.catalog.specs.declared.ships.TheConstants.{SHIPS};
 
 /// The kinds are listed by number: 11 buildings from 1 on, 14 technologies from 21 on, 14 ships from 41 on and 8
-/// defences from 61 on. The ships that fly are listed in the same order. It does nothing: the laws are its contract.
+/// defences from 61 on. The ships that fly and the units are listed in the same order. It does nothing: the laws are
+/// its contract.
 pub fn kinds_are_listed()
     ensures numbers { map kind_number KINDS
         ≡ range_with_len 1 11 ++ range_with_len 21 14 ++ range_with_len 41 14 ++ range_with_len 61 8 }
     ensures ships { SHIPS ≡ filter is_ship KINDS }
+    ensures units { UNIT_KINDS ≡ filter is_unit KINDS }
 {}
 
 /// No first cost is above the cap. It does nothing: the laws are its contract.

@@ -1,4 +1,4 @@
-ghost use Rattle.std.specs.Prelude.{◌≡◌, length};
+ghost use Rattle.std.specs.Prelude.{◌≡◌};
 ghost use Rattle.catalog.specs.Technologies.{level_in};
 
 use crate::classes::Technology;
@@ -7,7 +7,6 @@ use crate::classes::Technology;
 #[derive(Clone, Copy, Debug, PartialEq, Eq)]
 pub struct Techs {
     pub n: [u8; 14],
-    pub ghost kinds: { length n ≡ 14 },
 }
 
 impl Techs {
