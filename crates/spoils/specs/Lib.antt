@@ -1,0 +1,4 @@
+pub mod Defences
+pub mod Harvest
+pub mod Loot
+pub mod Shares
