@@ -120,4 +120,4 @@ pub ruleset degrees = (warmth_below, coldness_below)
 
 pub ruleset synthesis = (synthesized_below, degrees_fit, synthesis_fits)
 
-pub ruleset collection = (collected_below, satellites_fit, set_satellites_fit)
+pub ruleset collection = (collected_below, satellites_fit, set_satellites_fit, collected_has)

@@ -44,7 +44,7 @@ pub fn synthesized(level: u8, t: i16, tenths: u8) -> u64
 }
 
 /// What satellites give: the more, the warmer their planet is. What one of them gives is rounded down first.
-#[tactic(auto, using(crate::proofs::Sizes::collection), unfolding(crate::specs::Formulas::collected))]
+#[tactic(auto, using(crate::proofs::Sizes::collection, std::proofs::lemmas::Int::ints), unfolding(crate::specs::Formulas::collected))]
 pub fn collected(count: u32, t: i16, tenths: u8) -> u64
     requires count { count ≤ 100000 }
     requires coldest { negsuc 129 ≤ℤ t }

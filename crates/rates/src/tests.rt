@@ -251,7 +251,7 @@ const PLANETS: [Planet; 34] = [
     ),
 ];
 
-/// The works of a planet of the table; what is above its range counts as the end of the range, so that the check sees
+/// The works of a planet of the table. A number beyond its range counts as the end of the range, so that the check sees
 /// works in range.
 fn works_of(levels: [u8; 4], sets: [u8; 5], satellites: u32, t: i16) -> Works
     ensures { IsInRange result }
