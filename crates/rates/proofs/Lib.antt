@@ -1,1 +1,4 @@
 pub mod Gains
+pub mod Powers
+pub mod Sizes
+pub mod Shares

@@ -1,8 +1,10 @@
-ghost use Rattle.std.specs.Prelude.{◌≡◌, ◌*◌, ◌^◌, ◌≤◌};
+ghost use Rattle.std.specs.Prelude.{◌≡◌, ◌*◌, ◌^◌, ◌≤◌, Some, slice_get};
+ghost use Rattle.catalog.specs.Storage.{storage_limits};
 ghost use Rattle.rates.specs.Stock.{IsWithinCap, gain_once, hourly_yield, stocks_second, stored, whole};
 ghost use Rattle.rates.specs.Times.{times};
 
 use crate::resources::Resources;
+use catalog::storage_limit;
 
 /// The grains in one unit of a resource: stocks are counted in grains.
 pub const GRAINS: u64 = 3600;
@@ -59,6 +61,15 @@ pub fn storage() -> Resources
         crystal: STORAGE,
         deuterium: STORAGE,
     }
+}
+
+/// Up to how many units production fills a stock, by the level of its store, 0 to 16.
+pub fn limit(level: u8) -> u64
+    requires { level ≤ 16 }
+    ensures value { slice_get storage_limits level ≡ Some result }
+    ensures within { result ≤ CAP }
+{
+    storage_limit(level)
 }
 
 /// The whole units of stocks that are given in grains, floored.

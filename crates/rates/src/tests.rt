@@ -1,4 +1,6 @@
-use crate::{CAP, GRAINS, gain};
+ghost use Rattle.rates.specs.Energy.{IsInRange};
+
+use crate::{CAP, GRAINS, Resources, STORAGE, Works, basic_income, gain, hourly, limit};
 
 /// One stock: its grains, limit and hourly yield, the seconds that pass, and the grains wanted then.
 type Case = (u64, u64, u64, u64, u64);
@@ -24,5 +26,293 @@ fn a_stock_below_its_limit_gains_and_is_cut_there(rt: HostRuntime) {
             want,
             "from {grains} in {seconds} s"
         );
+    }
+}
+
+/// One planet: the levels of its metal mine, crystal mine, synthesizer and solar plant, the tenths at which these and
+/// the satellites work, the number of satellites, the maximum temperature, the speed; and what is wanted: metal,
+/// crystal, deuterium, energy given and energy needed.
+type Planet = ([u8; 4], [u8; 5], u32, i16, u32, [u64; 5]);
+
+/// Each work at all its tenths.
+const FULL: [u8; 5] = [10; 5];
+
+/// The wanted numbers were computed with Python's integers by the formulas of docs/RULES.md, "Mines", "Energy" and
+/// "Yields".
+const PLANETS: [Planet; 34] = [
+    ([1, 0, 0, 0], FULL, 0, 40, 1, [20, 10, 0, 0, 11]),
+    ([1, 0, 0, 1], FULL, 0, 40, 1, [53, 10, 0, 22, 11]),
+    ([1, 0, 1, 1], FULL, 0, 40, 1, [42, 10, 8, 22, 33]),
+    ([0, 0, 0, 0], [0, 0, 0, 0, 0], 0, -130, 1, [20, 10, 0, 0, 0]),
+    ([0, 0, 0, 0], FULL, 0, 260, 100, [2_000, 1_000, 0, 0, 0]),
+    (
+        [0, 0, 0, 0],
+        [10, 0, 5, 1, 10],
+        0,
+        1,
+        99,
+        [1_980, 990, 0, 0, 0],
+    ),
+    ([0, 0, 0, 0], FULL, 1, 0, 2, [40, 20, 0, 23, 0]),
+    (
+        [0, 0, 0, 0],
+        [10, 10, 10, 10, 1],
+        7,
+        -129,
+        2,
+        [40, 20, 0, 0, 0],
+    ),
+    (
+        [0, 0, 0, 0],
+        [10, 10, 10, 10, 5],
+        7,
+        -130,
+        1,
+        [20, 10, 0, 3, 0],
+    ),
+    (
+        [0, 0, 0, 0],
+        FULL,
+        100_000,
+        260,
+        100,
+        [2_000, 1_000, 0, 6_600_000, 0],
+    ),
+    (
+        [0, 0, 0, 0],
+        [10, 10, 10, 10, 1],
+        99_999,
+        259,
+        100,
+        [2_000, 1_000, 0, 659_993, 0],
+    ),
+    (
+        [30, 30, 30, 30],
+        [0, 0, 0, 10, 10],
+        100_000,
+        40,
+        100,
+        [2_000, 1_000, 0, 3_010_469, 0],
+    ),
+    (
+        [30, 30, 30, 30],
+        FULL,
+        100_000,
+        260,
+        100,
+        [1_572_400, 1_047_900, 397_800, 6_610_469, 20_940],
+    ),
+    (
+        [30, 30, 30, 30],
+        FULL,
+        100_000,
+        -130,
+        100,
+        [1_572_400, 1_047_900, 806_100, 110_469, 20_940],
+    ),
+    (
+        [30, 30, 30, 30],
+        FULL,
+        0,
+        -130,
+        100,
+        [787_125, 524_400, 403_011, 10_469, 20_940],
+    ),
+    (
+        [30, 30, 30, 30],
+        FULL,
+        0,
+        -130,
+        1,
+        [7_871, 5_244, 4_030, 10_469, 20_940],
+    ),
+    (
+        [30, 30, 30, 30],
+        [1, 1, 1, 1, 1],
+        0,
+        -129,
+        99,
+        [79_583, 52_692, 39_790, 1_046, 2_095],
+    ),
+    (
+        [30, 30, 30, 0],
+        FULL,
+        1,
+        -130,
+        100,
+        [2_074, 1_049, 38, 1, 20_940],
+    ),
+    (
+        [29, 30, 2, 29],
+        [10, 1, 5, 10, 0],
+        99_999,
+        0,
+        99,
+        [1_368_180, 104_544, 1_485, 9_200, 5_150],
+    ),
+    (
+        [15, 15, 15, 15],
+        FULL,
+        0,
+        1,
+        1,
+        [958, 636, 399, 1_253, 2_508],
+    ),
+    (
+        [15, 15, 15, 15],
+        FULL,
+        7,
+        259,
+        2,
+        [2_609, 1_733, 652, 1_715, 2_508],
+    ),
+    (
+        [15, 2, 29, 15],
+        [5, 10, 1, 10, 5],
+        7,
+        40,
+        99,
+        [94_941, 5_742, 54_648, 1_358, 1_260],
+    ),
+    ([2, 2, 2, 2], FULL, 0, 0, 1, [54, 33, 14, 48, 99]),
+    (
+        [2, 2, 2, 2],
+        [1, 1, 1, 1, 1],
+        1,
+        -129,
+        100,
+        [2_254, 1_145, 109, 4, 11],
+    ),
+    (
+        [2, 1, 1, 1],
+        [5, 5, 5, 5, 5],
+        1,
+        260,
+        2,
+        [112, 42, 8, 44, 30],
+    ),
+    ([1, 1, 1, 1], [1, 1, 1, 1, 1], 0, 1, 1, [20, 10, 0, 2, 7]),
+    (
+        [29, 29, 29, 29],
+        [5, 10, 1, 5, 10],
+        1,
+        260,
+        2,
+        [8_270, 10_994, 416, 4_666, 7_823],
+    ),
+    (
+        [29, 15, 0, 30],
+        [10, 5, 10, 1, 1],
+        7,
+        0,
+        1,
+        [3_001, 145, 0, 1_062, 4_915],
+    ),
+    (
+        [0, 30, 1, 2],
+        FULL,
+        1,
+        259,
+        100,
+        [2_000, 23_702, 17, 114, 5_257],
+    ),
+    (
+        [0, 0, 30, 15],
+        [10, 10, 10, 5, 10],
+        7,
+        -130,
+        99,
+        [1_980, 990, 48_248, 633, 10_470],
+    ),
+    (
+        [0, 0, 29, 30],
+        [10, 10, 5, 10, 10],
+        0,
+        260,
+        1,
+        [20, 10, 1_748, 10_469, 4_601],
+    ),
+    (
+        [1, 29, 15, 2],
+        FULL,
+        100_000,
+        -129,
+        2,
+        [106, 18_420, 1_926, 100_048, 5_866],
+    ),
+    ([1, 2, 0, 1], FULL, 0, 40, 100, [4_016, 3_933, 0, 22, 36]),
+    (
+        [2, 15, 1, 2],
+        FULL,
+        7,
+        40,
+        99,
+        [4_708, 48_473, 492, 258, 674],
+    ),
+];
+
+/// The works of a planet of the table. A number beyond its range counts as the end of the range, so that the check sees
+/// works in range.
+fn works_of(levels: [u8; 4], sets: [u8; 5], satellites: u32, t: i16) -> Works
+    ensures { IsInRange result }
+{
+    let [metal, crystal, deuterium, solar] = levels;
+    let [first, second, third, fourth, fifth] = sets;
+    Works {
+        metal: metal.min(30),
+        crystal: crystal.min(30),
+        deuterium: deuterium.min(30),
+        solar: solar.min(30),
+        sets: [
+            first.min(10),
+            second.min(10),
+            third.min(10),
+            fourth.min(10),
+            fifth.min(10),
+        ],
+        satellites: satellites.min(100_000),
+        t: t.clamp(-130, 260),
+    }
+}
+
+#[test]
+fn a_planet_yields_by_its_works_and_their_energy(rt: HostRuntime) {
+    for (levels, sets, satellites, t, speed, want) in PLANETS {
+        assert!(rt; speed <= 100);
+        let works = works_of(levels, sets, satellites, t);
+        let is = hourly(&works, speed);
+        assert_eq!(rt;
+            [is.metal, is.crystal, is.deuterium, is.given, is.need],
+            want,
+            "of {works:?} at speed {speed}"
+        );
+    }
+}
+
+#[test]
+fn a_planet_without_works_has_the_basic_income_alone(rt: HostRuntime) {
+    for (speed, t) in [(1, -130), (2, 0), (99, 41), (100, 260)] {
+        let works = works_of([0; 4], FULL, 0, t);
+        let is = hourly(&works, speed);
+        let alone = Resources {
+            metal: is.metal,
+            crystal: is.crystal,
+            deuterium: is.deuterium,
+        };
+        assert_eq!(rt; alone, basic_income(speed));
+        assert_eq!(rt; (is.given, is.need), (0, 0));
+    }
+}
+
+#[test]
+fn a_store_is_filled_up_to_the_limit_of_its_level(rt: HostRuntime) {
+    for (level, units) in [
+        (0, STORAGE),
+        (1, 20_000),
+        (7, 865_000),
+        (15, 110_925_000),
+        (16, 203_350_000),
+    ] {
+        assert_eq!(rt; limit(level), units);
     }
 }
