@@ -104,7 +104,7 @@ slowest_is levels (kind ∷ kinds) speed some same =
     ] in
     record {
       reached = reached;
-      undercut = all_more (λ other. speed * 10 ≤ ship_tenths levels other) kind kinds (omega (arith, same, first)) (λ k d within. let low = bounds.1 k d within in omega (arith, same, low));
+      none_slower = all_more (λ other. speed * 10 ≤ ship_tenths levels other) kind kinds (omega (arith, same, first)) (λ k d within. let low = bounds.1 k d within in omega (arith, same, low));
     }
 
 -- what holds of each kind holds of those that are there

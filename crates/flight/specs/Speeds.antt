@@ -61,4 +61,4 @@ slowest_of before levels kinds = fold lower before (map (ship_speed levels) kind
 -- some of these kinds has this speed, and none is slower
 pub record IsSlowest (levels : List ℕ) (kinds : List Kind) (speed : ℕ) : Type 0 where
   pub reached : Any (λ kind. IsFloor (ship_tenths levels kind) 10 speed) kinds
-  pub undercut : All (λ kind. speed * 10 ≤ ship_tenths levels kind) kinds
+  pub none_slower : All (λ kind. speed * 10 ≤ ship_tenths levels kind) kinds
