@@ -1,0 +1,12 @@
+//! What each level and each unit costs, and how long it takes: exact values, in constant time, that refuse nothing and
+//! take no memory.
+#![tactic(auto)]
+
+mod duration;
+mod price;
+
+pub use duration::{Helpers, seconds};
+pub use price::cost;
+
+#[cfg(test)]
+mod tests;
