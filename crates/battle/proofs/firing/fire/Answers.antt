@@ -1,0 +1,37 @@
+use Rattle.std.proofs.Common.{get_or}
+use Rattle.std.proofs.lemmas.List.{get_or_default}
+use Rattle.catalog.specs.declared.kind.Kind.TheVariants.{MetalMine}
+use Rattle.battle.specs.declared.combatant.Combatant.{Combatant}
+use Rattle.battle.specs.Course.{unhurt}
+use Rattle.battle.proofs.OneShot.{AreSteps, shot_again, shot_stream, shot_targets}
+use Rattle.battle.proofs.firing.fire.Goals as goal
+
+-- what stands for a read outside the list
+abbrev outside : Combatant
+outside = unhurt (record { part = 0; kind = MetalMine; attack = 0; shield = 0; hull = 0 })
+
+-- what the three calls give
+steps : (c : goal.After-fires_again)
+    → AreSteps c.args.count c.args.shooter.now c.args.targets.now c.args.draws.now c.below-place.result
+    (get_or c.args.targets.now c.below-place.result outside) c.below-place.new.self c.strike.new.draws
+    c.fires_again.new.draws c.strike.new.target c.fires_again.result
+steps c =
+    record {
+      within = c.below-place.ensures.within;
+      met_is = λ d. get_or_default c.args.targets.now c.below-place.result d outside c.below-place.ensures.within;
+      place_is = c.below-place.ensures.value;
+      drawn_is = c.below-place.ensures.moves;
+      hit_is = c.strike.ensures.target;
+      fired_is = c.strike.ensures.words;
+      again_is = c.fires_again.ensures.again;
+      last_is = c.fires_again.ensures.words;
+    }
+
+pub returns-clause-again : goal.returns-clause-again
+returns-clause-again c = shot_again _ _ _ _ _ _ _ _ _ _ _ (steps c)
+
+pub returns-clause-targets : goal.returns-clause-targets
+returns-clause-targets c = shot_targets _ _ _ _ _ _ _ _ _ _ _ (steps c)
+
+pub returns-clause-words : goal.returns-clause-words
+returns-clause-words c = shot_stream _ _ _ _ _ _ _ _ _ _ _ (steps c)

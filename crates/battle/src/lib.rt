@@ -1,0 +1,22 @@
+//! Battles, each judged by the list of its shots.
+#![tactic(auto)]
+
+mod combatant;
+mod fighter;
+mod fighting;
+mod firing;
+mod laws;
+mod muster;
+mod outcome;
+mod part;
+mod ready;
+mod rounds;
+mod survivors;
+
+pub use fighting::fight;
+pub use laws::battles_have_one_trace;
+pub use outcome::{Outcome, Verdict};
+pub use part::{Part, Side};
+
+#[cfg(test)]
+mod tests;

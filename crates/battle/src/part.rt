@@ -1,0 +1,106 @@
+ghost use Rattle.std.specs.Prelude.{◌≡◌, List, [], ◌∷◌, ◌++◌, ◌==◌, ◌≤◌, ◌↔◌, length, IsTrue, OnOk, OnErr};
+ghost use Rattle.battle.specs.declared.part.Part.{Part};
+
+use crate::combatant::Combatant;
+use crate::ready::{is_in_order, is_within_limit};
+use crate::survivors::keep;
+use catalog::Techs;
+use std::alloc::{AllocError, Global};
+use std::marker::Model;
+
+/// A part of a side: a fleet, or what stands on a planet.
+#[derive(Clone, Copy, Debug, PartialEq, Eq)]
+pub struct Part {
+    /// The number of the fleet; 0 for a planet.
+    pub number: u64,
+    /// The technologies of its owner at the moment of the battle.
+    pub techs: Techs,
+    /// How many units it has of each kind of `UNIT_KINDS`.
+    pub n: [u32; 22],
+}
+
+/// A side of a battle: its parts, by number. Contracts see it as the list of them.
+#[derive(Debug, Drop)]
+pub struct Side {
+    parts: Vec<Part>,
+}
+
+impl Model for Side {
+    ghost Value = { List Part };
+
+    ghost view = { λ side. side.parts.items };
+}
+
+impl Side {
+    ghost use Rattle.battle.specs.Course.{fighters_of};
+    ghost use Rattle.battle.specs.Outcomes.{survivors};
+    ghost use Rattle.battle.specs.Sides.{IsSide, MOST_UNITS};
+
+    /// A side without parts. It takes no memory.
+    pub fn new(alloc: Global) -> Side
+        ensures { result ≡ [] }
+    {
+        Side {
+            parts: Vec::new(alloc),
+        }
+    }
+
+    /// Adds a part at the end.
+    pub fn push(&mut self, part: Part) -> Result<(), AllocError>
+        ensures ok { OnOk result (self.new ≡ self.old ++ part ∷ []) }
+        ensures err { OnErr result (self.new ≡ self.old) }
+    {
+        self.parts.push(part)?;
+        Ok(())
+    }
+
+    /// These parts, in their memory.
+    pub fn from_vec(parts: Vec<Part>) -> Side
+        ensures { result ≡ parts.items }
+    {
+        Side { parts }
+    }
+
+    /// The parts as a `Vec`, in the same memory.
+    pub fn into_vec(self) -> Vec<Part>
+        ensures { result.items ≡ self }
+    {
+        self.parts
+    }
+
+    /// How many parts there are.
+    pub fn len(&self) -> usize
+        ensures { result ≡ length self.now }
+    {
+        self.parts.len()
+    }
+
+    /// Whether there is no part.
+    pub fn is_empty(&self) -> bool
+        ensures { result ≡ (length self.now == 0) }
+    {
+        self.parts.is_empty()
+    }
+
+    /// The parts.
+    pub fn as_slice(&self) -> &[Part]
+        ensures { result.now ≡ self.now }
+    {
+        &self.parts
+    }
+
+    /// Whether the parts come by their numbers, and have at most 800,000 units together: what a battle asks of a side.
+    pub fn can_fight(&self) -> bool
+        ensures { IsTrue result ↔ IsSide self.now }
+    {
+        is_in_order(&self.parts) && is_within_limit(&self.parts)
+    }
+
+    /// Gives each part the units that are left of it.
+    pub(crate) fn keep(&mut self, living: &[Combatant])
+        requires { length living.now ≤ MOST_UNITS }
+        ensures { self.new ≡ survivors (fighters_of living.now) self.old }
+    {
+        keep(&mut self.parts, living);
+    }
+}

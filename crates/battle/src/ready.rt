@@ -1,0 +1,47 @@
+ghost use Rattle.std.specs.Prelude.{◌≡◌, ◌*◌, ◌^◌, ◌≤◌, ◌↔◌, ℕ, length, map, IsTrue};
+ghost use Rattle.std.specs.List.Sorted.{IsStrictlyIncreasing};
+ghost use Rattle.battle.specs.Sides.{MOST_UNITS, fighters, part_fighters};
+
+use crate::part::Part;
+
+/// The most units that a side has.
+const UNIT_LIMIT: u64 = 800_000;
+
+/// Whether the parts come by their numbers.
+pub(crate) fn is_in_order(parts: &[Part]) -> bool
+    ensures { IsTrue result ↔ IsStrictlyIncreasing (map (λ part. part.number) parts.now) }
+{
+    'places: for place in 1..parts.len() {
+        if parts[place].number <= parts[place - 1].number {
+            return false;
+        }
+    }
+    true
+}
+
+/// Whether the parts have no more units than a side may have.
+pub(crate) fn is_within_limit(parts: &[Part]) -> bool
+    ensures { IsTrue result ↔ (length (fighters parts.now) ≤ MOST_UNITS) }
+{
+    let mut units = 0;
+    'parts: for part in parts {
+        units += unit_count(part);
+        if units > UNIT_LIMIT {
+            return false;
+        }
+    }
+    true
+}
+
+/// How many units a part has.
+#[tactic(auto, using(crate::proofs::UnitCounts::part_counts))]
+fn unit_count(part: &Part) -> u64
+    ensures value { (place : ℕ) → length (part_fighters place part.now) ≡ result }
+    ensures within { result ≤ 22 * 2 ^ 32 }
+{
+    let mut units = 0;
+    'kinds: for count in &part.n {
+        units += u64::from(*count);
+    }
+    units
+}
