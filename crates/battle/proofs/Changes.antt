@@ -20,6 +20,3 @@ pub placed_more : {X : Type 0} (f : ℕ → X → X) (xs : List X) (i : ℕ) (d 
     ≡ take i xs ++ map (λ placed. f placed.0 placed.1) (enumerate_from i (drop i xs))
 placed_more f xs i d y within e =
     rw (take_more_set xs i y within, drop-set-lt (i + 1) xs i y (omega arith), append_assoc, drop_more xs i d within, e) refl
-
-pub placed_all : {X : Type 0} (f : ℕ → X → X) (xs : List X) (i : ℕ) → length xs ≤ i → xs ≡ take i xs ++ map (λ placed. f placed.0 placed.1) (enumerate_from i (drop i xs))
-placed_all f xs i all = rw (take_all i xs all, drop_all i xs all, append-nil) refl

@@ -1,7 +1,7 @@
 -- The units of a side, part by part, kind by kind and one by one.
-use Rattle.std.proofs.Common.{◌≡◌, ℕ, zero, suc, ◌+◌, ◌-◌, ◌<◌, ◌≤◌, List, ◌∷◌, ◌++◌, length, map, take, drop, get_or, replicate, refl, ap, arith, append_assoc}
+use Rattle.std.proofs.Common.{◌≡◌, ℕ, zero, suc, ◌+◌, ◌-◌, ◌<◌, List, ◌∷◌, ◌++◌, length, map, take, drop, get_or, replicate, refl, ap, arith, append_assoc}
 use Rattle.std.specs.List.{enumerate_from, flat_map, zip}
-use Rattle.std.proofs.lemmas.List.{drop_more, drop_all, map-append, append-nil, take_all}
+use Rattle.std.proofs.lemmas.List.{drop_more, map-append, take_all}
 use Rattle.catalog.specs.declared.kind.Kind.{Kind}
 use Rattle.battle.specs.declared.combatant.Combatant.{Combatant}
 use Rattle.battle.specs.declared.fighter.Fighter.{Fighter}
@@ -26,16 +26,6 @@ lengthened cs n count f e =
 abbrev pub from_part : ℕ → List Part → List Combatant
 from_part place parts = map unhurt (flat_map (λ placed. part_fighters placed.0 placed.1) (enumerate_from place parts))
 
--- one part more
-pub part_more : (units : List Combatant) (parts : List Part) (i : ℕ) (d : Part) → i < length parts
-    → (units ++ map unhurt (part_fighters i (get_or parts i d))) ++ from_part (i + 1) (drop (i + 1) parts) ≡ units ++ from_part i (drop i parts)
-part_more units parts i d within =
-    rw (append_assoc, drop_more parts i d within, map-append) refl
-
--- no part is left
-pub part_none : (units : List Combatant) (parts : List Part) (i : ℕ) → length parts ≤ i → units ++ from_part i (drop i parts) ≡ units
-part_none units parts i all = rw (drop_all i parts all) (append-nil units)
-
 -- the units of these kinds
 abbrev pub of_kinds : ℕ → List ℕ → List Kind → List ℕ → List Combatant
 of_kinds part levels kinds counts = map unhurt (flat_map (λ counted. replicate counted.1 (fighter part levels counted.0)) (zip kinds counts))
@@ -47,10 +37,5 @@ pub kind_more : (units : List Combatant) (part : ℕ) (levels : List ℕ) (kinds
     ≡ units ++ of_kinds part levels (drop i kinds) (drop i counts)
 kind_more units part levels kinds counts i k d within inside =
     rw (append_assoc, drop_more kinds i k within, drop_more counts i d inside, map-append) refl
-
--- no kind is left
-pub kind_none : (units : List Combatant) (part : ℕ) (levels : List ℕ) (kinds : List Kind) (counts : List ℕ) (i : ℕ)
-    → length kinds ≤ i → units ++ of_kinds part levels (drop i kinds) (drop i counts) ≡ units
-kind_none units part levels kinds counts i all = rw (drop_all i kinds all) (append-nil units)
 
 pub ruleset units = (lengthened, map-replicate)

@@ -3,7 +3,7 @@ use Rattle.std.proofs.Common.{◌≡◌, ℕ, ◌+◌, ◌<◌, ◌≤◌, List,
 use Rattle.std.proofs.lemmas.Bool.{cases_lt}
 use Rattle.std.specs.List.{enumerate_from, flat_map, sum, zip}
 use Rattle.std.proofs.lemmas.List.Sums.{sum_by-cons}
-use Rattle.std.proofs.lemmas.List.{drop_all, drop_more, get_or-map, length-map, length-replicate}
+use Rattle.std.proofs.lemmas.List.{drop_more, get_or-map, length-map, length-replicate}
 use Rattle.std.specs.List.Sorted.{IsStrictlyIncreasing}
 use Rattle.catalog.specs.declared.classes.TheConstants.{UNIT_KINDS}
 use Rattle.catalog.specs.declared.kind.Kind.{Kind}
@@ -35,10 +35,6 @@ rest_of place parts = flat_map (λ placed. part_fighters placed.0 placed.1) (enu
 pub length-rest : (parts : List Part) (i : ℕ) (d : Part) → i < length parts
     → length (rest_of i (drop i parts)) ≡ length (part_fighters i (get_or parts i d)) + length (rest_of (i + 1) (drop (i + 1) parts))
 length-rest parts i d within = rw (drop_more parts i d within) (length-append (part_fighters i (get_or parts i d)) (rest_of (i + 1) (drop (i + 1) parts)))
-
--- no part is left
-pub length-no_rest : (parts : List Part) (i : ℕ) → length parts ≤ i → length (rest_of i (drop i parts)) ≡ 0
-length-no_rest parts i all = rw (drop_all i parts all) refl
 
 -- the number of the part at a place
 pub number_at : (parts : List Part) (i : ℕ) (d : Part) → i < length parts → get_or (map (λ (p : Part). p.number) parts) i 0 ≡ (get_or parts i d).number

@@ -15,11 +15,12 @@ pub struct Part {
     pub number: u64,
     /// The technologies of its owner at the moment of the battle.
     pub techs: Techs,
-    /// How many units it has of each kind of `UNIT_KINDS`.
+    /// How many units it has of each kind of `UNIT_KINDS`, in that order.
     pub n: [u32; 22],
 }
 
-/// A side of a battle: its parts, by number. Contracts see it as the list of them.
+/// A side of a battle: its parts, by number. Contracts see it as the list of them. A battle asks that their numbers grow and
+/// that they have at most 800,000 units together (`can_fight`).
 #[derive(Debug, Drop)]
 pub struct Side {
     parts: Vec<Part>,

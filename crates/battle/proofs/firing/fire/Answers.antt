@@ -10,12 +10,11 @@ use Rattle.battle.proofs.firing.fire.Goals as goal
 abbrev outside : Combatant
 outside = unhurt (record { part = 0; kind = MetalMine; attack = 0; shield = 0; hull = 0 })
 
--- what the three calls give
-steps : (c : goal.After-fires_again)
-    → AreSteps c.args.count c.args.shooter.now c.args.targets.now c.args.draws.now c.below-place.result
+pub returns : goal.returns
+returns c =
+    let steps : AreSteps c.args.count c.args.shooter.now c.args.targets.now c.args.draws.now c.below-place.result
     (get_or c.args.targets.now c.below-place.result outside) c.below-place.new.self c.strike.new.draws
-    c.fires_again.new.draws c.strike.new.target c.fires_again.result
-steps c =
+    c.fires_again.new.draws c.strike.new.target c.fires_again.result =
     record {
       within = c.below-place.ensures.within;
       met_is = λ d. get_or_default c.args.targets.now c.below-place.result d outside c.below-place.ensures.within;
@@ -25,13 +24,9 @@ steps c =
       fired_is = c.strike.ensures.words;
       again_is = c.fires_again.ensures.again;
       last_is = c.fires_again.ensures.words;
+    } in
+    record {
+      again = shot_again _ _ _ _ _ _ _ _ _ _ _ steps;
+      targets = shot_targets _ _ _ _ _ _ _ _ _ _ _ steps;
+      words = shot_stream _ _ _ _ _ _ _ _ _ _ _ steps;
     }
-
-pub returns-clause-again : goal.returns-clause-again
-returns-clause-again c = shot_again _ _ _ _ _ _ _ _ _ _ _ (steps c)
-
-pub returns-clause-targets : goal.returns-clause-targets
-returns-clause-targets c = shot_targets _ _ _ _ _ _ _ _ _ _ _ (steps c)
-
-pub returns-clause-words : goal.returns-clause-words
-returns-clause-words c = shot_stream _ _ _ _ _ _ _ _ _ _ _ (steps c)
