@@ -1,7 +1,7 @@
 ghost use Rattle.std.specs.Prelude.{◌≡◌, ◌/◌, ◌<◌, ◌≤◌, ◌^◌};
 ghost use Rattle.flight.specs.Times.{IsFlightTime, flight_seconds, pace, way};
 
-use base_num::isqrt;
+use base_num::{floor, isqrt};
 
 /// The seconds of a flight, at least 1, over the distance `d` by a fleet of the speed `v`, at least 1, at the speed
 /// setting `p`, 1 to 10, in a universe of the speed `speed`, 1 to 100.
@@ -32,6 +32,9 @@ fn squared(d: u32, v: u64, p: u8) -> u128
     if d <= 1_000_000_000 && v <= 100_000_000_000_000_000 {
         u128::from(12_250_000_000 * u64::from(d) / (square * v))
     } else {
-        12_250_000_000 * u128::from(d) / (u128::from(square) * u128::from(v))
+        floor(
+            12_250_000_000 * u128::from(d),
+            u128::from(square) * u128::from(v),
+        )
     }
 }

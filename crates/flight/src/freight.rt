@@ -4,6 +4,7 @@ ghost use Rattle.catalog.specs.declared.ships.TheConstants.{SHIPS};
 ghost use Rattle.flight.specs.Fleets.{total};
 ghost use Rattle.flight.specs.Freight.{burning, capacity_of, flight_fuel, ship_fuel};
 
+use base_num::floor;
 use catalog::{Kind, SHIPS, Ships, Technology, Techs};
 
 /// The units of resources that fit into a fleet.
@@ -35,7 +36,7 @@ pub fn fuel(ships: &Ships, t: &Techs, d: u32, p: u8) -> u64
     let burning = u128::from(fleet_fuel(ships, impulse))
         * u128::from(d)
         * u128::from(setting * setting);
-    1 + (burning / 3_500_000) as u64
+    1 + floor(burning, 3_500_000) as u64
 }
 
 /// The fuel that all ships take.

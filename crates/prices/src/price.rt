@@ -4,6 +4,7 @@ ghost use Rattle.catalog.specs.Levels.{growth_of, level_cap_of};
 ghost use Rattle.catalog.specs.declared.amounts.TheConstants.{CAP};
 ghost use Rattle.prices.specs.Prices.{IsGrown, price_of};
 
+use base_num::floor;
 use catalog::{Amounts, Kind};
 
 /// What the level `level` of a building or a technology costs, from 1 to the cap of the kind, or one ship or defence,
@@ -53,5 +54,5 @@ fn grown(first: u64, numerator: u128, denominator: u128) -> u64
     ensures value { result ≡ first * numerator / denominator }
     ensures within { result ≤ CAP }
 {
-    (u128::from(first) * numerator / denominator) as u64
+    floor(u128::from(first) * numerator, denominator) as u64
 }
