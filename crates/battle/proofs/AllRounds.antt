@@ -346,7 +346,7 @@ range_later : {X : Type 0} (f : ℕ → X) (from count : ℕ) → map f (range_w
 range_later f from zero = refl
 range_later f from (suc count) = ap (λ xs. f (from + 1) ∷ xs) (range_later f (from + 1) count)
 
-map_places : {X : Type 0} (g : Fighter → X) (d : Fighter) (xs : List Fighter) → map (λ place. g (get_or xs place d)) (range_with_len 0 (length xs)) ≡ map g xs
+pub map_places : {X : Type 0} (g : Fighter → X) (d : Fighter) (xs : List Fighter) → map (λ place. g (get_or xs place d)) (range_with_len 0 (length xs)) ≡ map g xs
 map_places g d [] = refl
 map_places g d (x ∷ xs) =
     ap (λ ys. g x ∷ ys)

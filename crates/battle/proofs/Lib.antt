@@ -7,6 +7,7 @@ pub mod Salvo
 pub mod Halves
 pub mod AllRounds
 pub mod OneTrace
+pub mod Kept
 pub mod Fought
 pub mod Strengths
 pub mod OneShot

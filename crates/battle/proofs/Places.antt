@@ -3,7 +3,7 @@ use Rattle.std.proofs.Common.{◌≡◌, ℕ, zero, suc, ◌+◌, ◌<◌, ◌�
 use Rattle.std.specs.List.{range_with_len}
 
 -- the places rise from this one on
-pub Rise : ℕ → List ℕ → Type 0
+unfoldable pub Rise : ℕ → List ℕ → Type 0
 Rise from [] = Unit
 Rise from (place ∷ places) = (from ≤ place) × Rise (place + 1) places
 

@@ -14,7 +14,7 @@ mod rounds;
 mod survivors;
 
 pub use fighting::fight;
-pub use laws::battles_have_one_trace;
+pub use laws::{battles_have_one_trace, no_unit_is_gained};
 pub use outcome::{Outcome, Verdict};
 pub use part::{Part, Side};
 
