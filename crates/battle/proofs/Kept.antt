@@ -8,7 +8,7 @@ use Rattle.std.proofs.lemmas.List.Sums.{sum_by-append, sum_by-cons}
 use Rattle.catalog.specs.Kinds.{kind_number}
 use Rattle.catalog.specs.declared.classes.TheConstants.{UNIT_KINDS}
 use Rattle.catalog.specs.declared.kind.Kind.{Kind}
-use Rattle.battle.proofs.AllRounds.{map_places}
+use Rattle.battle.proofs.AllRounds.{map_places, map_same}
 use Rattle.battle.proofs.Places.{Rise}
 use Rattle.battle.specs.declared.fighter.Fighter.{Fighter}
 use Rattle.battle.specs.declared.part.Part.{Part}
@@ -21,7 +21,7 @@ abbrev of_kinds : ℕ → List ℕ → List Kind → List ℕ → List Fighter
 of_kinds part levels kinds counts = flat_map (λ counted. replicate counted.1 (fighter part levels counted.0)) (zip kinds counts)
 
 -- whether a unit is of this part and kind
-abbrev is_one : ℕ → Kind → Fighter → Bool
+abbrev pub is_one : ℕ → Kind → Fighter → Bool
 is_one part kind f = f.part == part && kind_number f.kind == kind_number kind
 
 count_both : (xs ys : List Fighter) (part : ℕ) (kind : Kind) → count_of (xs ++ ys) part kind ≡ count_of xs part kind + count_of ys part kind
@@ -89,7 +89,7 @@ unfolding Rise rises
 rise_by_test from [] passes = tt
 rise_by_test from (n ∷ ns) passes = let parts = and_parts (nat_le from n) (rises (n + 1) ns) passes in (leb-true from n parts.0, rise_by_test (n + 1) ns parts.1)
 
-kinds_rise : Rise 0 (map kind_number UNIT_KINDS)
+pub kinds_rise : Rise 0 (map kind_number UNIT_KINDS)
 unfolding rises
 kinds_rise = rise_by_test 0 (map kind_number UNIT_KINDS) refl
 
@@ -104,10 +104,6 @@ later_parts part from kind (p ∷ parts) before =
     let rest = later_parts part (from + 1) kind parts (omega (arith, before)) in
     let here = other_part part from p.techs.n kind UNIT_KINDS p.n (ne_eqb from part (λ same. omega (arith, before, same))) in
     count_both (part_fighters from p) (from_part (from + 1) parts) part kind ∙ omega (arith, rest, here)
-
-map_alike : {X Y : Type 0} (f g : X → Y) (xs : List X) → ((x : X) → f x ≡ g x) → map f xs ≡ map g xs
-map_alike f g [] same = refl
-map_alike f g (x ∷ xs) same = ap (λ y. y ∷ map f xs) (same x) ∙ ap (λ ys. g x ∷ ys) (map_alike f g xs same)
 
 -- parts that keep all their units
 parts_are : (all : List Fighter) (from : ℕ) (parts : List Part) → AllByRecursion (λ p. length p.n ≡ 22) parts
@@ -127,7 +123,7 @@ parts_are all from (p ∷ parts) (first, long) same =
     here : record p { n = map (count_of all from) UNIT_KINDS } ≡ p
     here =
         ap (λ (ns : List ℕ). record p { n = ns })
-        (map_alike (count_of all from) (count_of (part_fighters from p) from) UNIT_KINDS own ∙ counts_are from 0 p.techs.n UNIT_KINDS p.n first kinds_rise)
+        (map_same (count_of all from) (count_of (part_fighters from p) from) UNIT_KINDS own ∙ counts_are from 0 p.techs.n UNIT_KINDS p.n first kinds_rise)
 
     later : (part : ℕ) (kind : Kind) → from + 1 ≤ part → count_of all part kind ≡ count_of (from_part (from + 1) parts) part kind
     later part kind least =

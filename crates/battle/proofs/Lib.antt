@@ -8,6 +8,7 @@ pub mod Halves
 pub mod AllRounds
 pub mod OneTrace
 pub mod Kept
+pub mod Again
 pub mod Fought
 pub mod Strengths
 pub mod OneShot

@@ -1,4 +1,4 @@
-ghost use Rattle.std.specs.Prelude.{◌≡◌, nat_lt, IfOk, OnErr};
+ghost use Rattle.std.specs.Prelude.{◌≡◌, nat_lt, IfOk, OnErr, OnOk};
 ghost use Rattle.battle.specs.Outcomes.{IsFought, verdict_of};
 ghost use Rattle.battle.specs.Sides.{IsSide};
 
@@ -10,8 +10,8 @@ use draws::Draws;
 use std::alloc::{AllocError, Global};
 
 /// Fights the battle of this number between attackers and a planet: its words are drawn from the stream of its number,
-/// from the universe's seed. Both sides keep all their parts, each with the units that are left of it, which may be none.
-/// It fails only where memory runs out, and then both sides are as they were.
+/// from the universe's seed. Both sides keep all their parts, each with the units that are left of it, which may be
+/// none; so both can fight again. It fails only where memory runs out, and then both sides are as they were.
 pub fn fight(
     alloc: Global,
     att: &mut Side,
@@ -22,6 +22,7 @@ pub fn fight(
     requires attackers { IsSide att.old }
     requires planet { IsSide def.old }
     ensures ok { IfOk result (λ outcome. IsFought att.old def.old seed number outcome att.new def.new) }
+    ensures again { OnOk result (IsSide att.new × IsSide def.new) }
     ensures err { OnErr result ((att.new ≡ att.old) × (def.new ≡ def.old)) }
 {
     let mut attackers = muster(alloc, att.as_slice())?;

@@ -1,9 +1,11 @@
-use Rattle.std.proofs.Common.{◌≡◌, ℕ, List, length, map, nat_lt, ap, sym, ◌∙◌}
+use Rattle.std.proofs.Common.{◌≡◌, ℕ, ◌≤◌, List, length, map, nat_lt, ap, subst, sym, ◌∙◌, arith}
 use Rattle.battle.specs.declared.combatant.Combatant.{Combatant}
 use Rattle.battle.specs.declared.part.Part.{Part}
 use Rattle.battle.specs.Course.{fighters_of, unhurt}
 use Rattle.battle.specs.Outcomes.{survivors, verdict_of}
-use Rattle.battle.specs.Sides.{fighters}
+use Rattle.battle.specs.Sides.{IsSide, MOST_UNITS, fighters}
+use Rattle.battle.proofs.Again.{still_side}
+use Rattle.std.proofs.lemmas.List.{length-map}
 use Rattle.battle.proofs.Ends.{ends}
 use Rattle.battle.proofs.fighting.fight.Goals as goal
 
@@ -24,3 +26,17 @@ returns-clause-ok c =
     ∙ ap (λ (n : ℕ). verdict_of (nat_lt 0 (length attackers.items)) (nat_lt 0 n)) planet_len)
     (c.keep.ensures ∙ ap (λ (cs : List Combatant). survivors (fighters_of cs) c.args.att.now) c.deref.ensures.value)
     (c.keep-2.ensures ∙ ap (λ (cs : List Combatant). survivors (fighters_of cs) c.args.def.now) c.deref-2.ensures.value)
+
+pub returns-clause-again : goal.returns-clause-again
+returns-clause-again c =
+    let attackers = c.fight_rounds-rounds.new.attackers in
+    let planet = c.fight_rounds-rounds.new.planet in (
+      still c.args.att.now c.keep.new.self attackers.items c.requires.attackers c.fight_rounds-rounds.ensures.attackers_fewer
+          (c.keep.ensures ∙ ap (λ (cs : List Combatant). survivors (fighters_of cs) c.args.att.now) c.deref.ensures.value),
+      still c.args.def.now c.keep-2.new.self planet.items c.requires.planet c.fight_rounds-rounds.ensures.planet_fewer
+          (c.keep-2.ensures ∙ ap (λ (cs : List Combatant). survivors (fighters_of cs) c.args.def.now) c.deref-2.ensures.value),
+    )
+  where
+    still : (before after : List Part) (living : List Combatant) → IsSide before → length living ≤ MOST_UNITS → after ≡ survivors (fighters_of living) before → IsSide after
+    still before after living side most same =
+        subst IsSide (sym same) (still_side (fighters_of living) before side (let fewer = length-map living (λ (x : Combatant). x.fighter) in omega (arith, fewer, most)))
