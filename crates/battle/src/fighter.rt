@@ -19,8 +19,8 @@ pub(crate) struct Fighter {
 impl Fighter {
     ghost use Rattle.battle.specs.Sides.{fighter};
 
-    #[tactic(auto, using(crate::proofs::Strengths::strengths))]
     /// A unit of a kind in the part at this place, by the technologies of its owner.
+    #[tactic(auto, using(crate::proofs::Strengths::strengths))]
     pub(crate) fn new(part: usize, kind: Kind, techs: &Techs) -> Fighter
         ensures { result ≡ fighter part techs.now.n kind }
     {

@@ -65,8 +65,8 @@ fn fire(shooter: &Fighter, count: u32, targets: &mut [Combatant], draws: &mut Dr
     fires_again(shooter.kind, kind, count, draws)
 }
 
-#[tactic(auto, unfolding(draws::specs::Draws::after))]
 /// Whether a unit fires again after its `count`th shot of the round, by the kinds of the unit and its target.
+#[tactic(auto, unfolding(draws::specs::Draws::after))]
 fn fires_again(shooter: Kind, target: Kind, count: u32, draws: &mut Draws) -> bool
     ensures again { result ≡ fires_again shooter target count (word_at draws.old 0) }
     ensures words { draws.new ≡ after (one_if (is_rapid shooter target count)) draws.old }
@@ -75,8 +75,8 @@ fn fires_again(shooter: Kind, target: Kind, count: u32, draws: &mut Draws) -> bo
     rapid >= 2 && count < MOST_SHOTS && draws.below(rapid) >= 1
 }
 
-#[tactic(auto, unfolding(draws::specs::Draws::after))]
 /// What a shot of this attack does to its target.
+#[tactic(auto, unfolding(draws::specs::Draws::after))]
 fn strike(attack: u32, target: &mut Combatant, draws: &mut Draws)
     ensures target { target.new ≡ struck attack (word_at draws.old 0) target.old }
     ensures words { draws.new ≡ after (one_if (is_weak attack target.old)) draws.old }
