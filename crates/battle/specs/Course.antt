@@ -12,7 +12,7 @@ use Rattle.battle.specs.Rules.{destroys, fires_again, hull_left, is_rapid, is_we
 use Rattle.battle.specs.Shots.{nobody}
 use Rattle.battle.specs.Trace.{one_if}
 
--- a unit with its full shield and a hull of its own
+-- a unit with its full shield again; its hull stays as it is
 abbrev pub with_full_shield : Combatant → Combatant
 with_full_shield c = record c { shield = c.fighter.shield }
 
