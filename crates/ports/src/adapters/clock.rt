@@ -1,7 +1,8 @@
 // A clock over the system's.
-ghost use Rattle.std.specs.Prelude.{◌≡◌, ◌-◌, ◌/◌, ◌^◌, ◌<◌, min, None, [], IfSome, MatchResult};
+ghost use Rattle.std.specs.Prelude.{◌≡◌, ◌-◌, ◌/◌, ◌≤◌, min, None, [], IfSome, MatchResult};
 ghost use Rattle.std.specs.Duration.{as_nanos};
 ghost use Rattle.ports.specs.Readings.{TellsReading};
+ghost use Rattle.ports.specs.declared.clock.TheConstants.{LATEST};
 
 use crate::clock::{Clock, LATEST};
 use std::time::Duration;
@@ -13,7 +14,7 @@ use std::{io, rt};
 pub struct SystemClock<'a, R> {
     system: &'a R,
     latest: u64,
-    ghost in_range: { latest < 2 ^ 40 },
+    ghost in_range: { latest ≤ LATEST },
 }
 
 impl<'a, R: rt::Clock> SystemClock<'a, R> {
@@ -42,7 +43,7 @@ impl<R: rt::Clock> Clock for SystemClock<'_, R> {
 
 // The whole seconds of a time that the system gave, or the last reading where it gave none.
 fn seconds_of(time: io::Result<Duration>, latest: u64) -> u64
-    ensures { MatchResult time (λ since. result ≡ min (as_nanos since / 1_000_000_000) (2 ^ 40 - 1)) (λ _. result ≡ latest) }
+    ensures { MatchResult time (λ since. result ≡ min (as_nanos since / 1_000_000_000) LATEST) (λ _. result ≡ latest) }
 {
     match time {
         Ok(since) => since.as_secs().min(LATEST),

@@ -1,7 +1,8 @@
 // A clock that tells readings in memory.
-ghost use Rattle.std.specs.Prelude.{◌≡◌, ◌^◌, ◌<◌, [], IfSome};
+ghost use Rattle.std.specs.Prelude.{◌≡◌, ◌≤◌, [], IfSome};
 ghost use Rattle.ports.specs.Counts.{next_count};
 ghost use Rattle.ports.specs.Readings.{TellsReading, reading_at, readings_told};
+ghost use Rattle.ports.specs.declared.clock.TheConstants.{LATEST};
 
 use crate::clock::{Clock, LATEST};
 
@@ -39,7 +40,7 @@ impl Clock for MemoryClock<'_> {
 
     #[tactic(auto, using(crate::proofs::Tellings::tellings))]
     fn now(&mut self) -> u64
-        ensures range { result < 2 ^ 40 }
+        ensures range { result ≤ LATEST }
         ensures latest { self.new.latest ≡ result }
         ensures gains { TellsReading (readings_told self.old.readings.now self.old.count)
             (readings_told self.new.readings.now self.new.count) result }
@@ -68,7 +69,7 @@ impl Clock for MemoryClock<'_> {
 #[tactic(auto, unfolding(crate::specs::Readings::reading_at))]
 fn take_reading(readings: &[u64], place: u64) -> u64
     ensures value { result ≡ reading_at readings.now place }
-    ensures range { result < 2 ^ 40 }
+    ensures range { result ≤ LATEST }
 {
     let end = readings.len().saturating_sub(1);
     let place = (place as usize).min(end);
