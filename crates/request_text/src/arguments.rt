@@ -35,12 +35,8 @@ pub fn next_coord(words: &mut Parts) -> Option<Coord>
         ((at : Coord) (more : List (List ℕ)) → words.old ≡ coord_text at ∷ more → ⊥)
         (λ at. words.old ≡ coord_text at ∷ words.new) }
 {
-    let Some(word) = words.next() else {
-        return None;
-    };
-    let Some(at) = coord(word) else {
-        return None;
-    };
+    let word = words.next()?;
+    let at = coord(word)?;
     Some(at)
 }
 
@@ -50,12 +46,8 @@ pub fn next_building(words: &mut Parts) -> Option<Building>
         ((building : Building) (more : List (List ℕ)) → words.old ≡ kind_word building.kind ∷ more → ⊥)
         (λ building. words.old ≡ kind_word building.kind ∷ words.new) }
 {
-    let Some(word) = words.next() else {
-        return None;
-    };
-    let Some(building) = Building::read(word) else {
-        return None;
-    };
+    let word = words.next()?;
+    let building = Building::read(word)?;
     Some(building)
 }
 
@@ -65,12 +57,8 @@ pub fn next_technology(words: &mut Parts) -> Option<Technology>
         ((technology : Technology) (more : List (List ℕ)) → words.old ≡ kind_word technology.kind ∷ more → ⊥)
         (λ technology. words.old ≡ kind_word technology.kind ∷ words.new) }
 {
-    let Some(word) = words.next() else {
-        return None;
-    };
-    let Some(technology) = Technology::read(word) else {
-        return None;
-    };
+    let word = words.next()?;
+    let technology = Technology::read(word)?;
     Some(technology)
 }
 
@@ -80,12 +68,8 @@ pub fn next_unit(words: &mut Parts) -> Option<Unit>
         ((unit : Unit) (more : List (List ℕ)) → words.old ≡ kind_word unit.kind ∷ more → ⊥)
         (λ unit. words.old ≡ kind_word unit.kind ∷ words.new) }
 {
-    let Some(word) = words.next() else {
-        return None;
-    };
-    let Some(unit) = Unit::read(word) else {
-        return None;
-    };
+    let word = words.next()?;
+    let unit = Unit::read(word)?;
     Some(unit)
 }
 
@@ -95,12 +79,8 @@ pub fn next_work(words: &mut Parts) -> Option<Work>
         ((work : Work) (more : List (List ℕ)) → words.old ≡ kind_word work.kind ∷ more → ⊥)
         (λ work. words.old ≡ kind_word work.kind ∷ words.new) }
 {
-    let Some(word) = words.next() else {
-        return None;
-    };
-    let Some(work) = Work::read(word) else {
-        return None;
-    };
+    let word = words.next()?;
+    let work = Work::read(word)?;
     Some(work)
 }
 
@@ -110,12 +90,8 @@ pub fn next_mission(words: &mut Parts) -> Option<Mission>
         ((mission : Mission) (more : List (List ℕ)) → words.old ≡ mission_word mission ∷ more → ⊥)
         (λ mission. words.old ≡ mission_word mission ∷ words.new) }
 {
-    let Some(word) = words.next() else {
-        return None;
-    };
-    let Some(mission) = Mission::read(word) else {
-        return None;
-    };
+    let word = words.next()?;
+    let mission = Mission::read(word)?;
     Some(mission)
 }
 
@@ -125,12 +101,8 @@ pub fn next_setting(words: &mut Parts) -> Option<SpeedSetting>
         ((setting : SpeedSetting) (more : List (List ℕ)) → words.old ≡ decimal setting.p ∷ more → ⊥)
         (λ setting. words.old ≡ decimal setting.p ∷ words.new) }
 {
-    let Some(word) = words.next() else {
-        return None;
-    };
-    let Some(n) = positive_number(word, 10) else {
-        return None;
-    };
+    let word = words.next()?;
+    let n = positive_number(word, 10)?;
     Some(SpeedSetting { p: n as u8 })
 }
 
@@ -140,12 +112,8 @@ pub fn next_tenths(words: &mut Parts) -> Option<Tenths>
         ((tenths : Tenths) (more : List (List ℕ)) → words.old ≡ decimal tenths.n ∷ more → ⊥)
         (λ tenths. words.old ≡ decimal tenths.n ∷ words.new) }
 {
-    let Some(word) = words.next() else {
-        return None;
-    };
-    let Some(n) = number(word, 10) else {
-        return None;
-    };
+    let word = words.next()?;
+    let n = number(word, 10)?;
     Some(Tenths { n: n as u8 })
 }
 
@@ -155,12 +123,8 @@ pub fn next_count(words: &mut Parts) -> Option<Count>
         ((count : Count) (more : List (List ℕ)) → words.old ≡ decimal count.n ∷ more → ⊥)
         (λ count. words.old ≡ decimal count.n ∷ words.new) }
 {
-    let Some(word) = words.next() else {
-        return None;
-    };
-    let Some(n) = positive_number(word, u64::from(UNITS)) else {
-        return None;
-    };
+    let word = words.next()?;
+    let n = positive_number(word, u64::from(UNITS))?;
     Some(Count { n: n as u32 })
 }
 
@@ -170,12 +134,8 @@ pub fn next_fleet(words: &mut Parts) -> Option<FleetNumber>
         ((fleet : FleetNumber) (more : List (List ℕ)) → words.old ≡ decimal fleet.f ∷ more → ⊥)
         (λ fleet. words.old ≡ decimal fleet.f ∷ words.new) }
 {
-    let Some(word) = words.next() else {
-        return None;
-    };
-    let Some(n) = positive_number(word, (1 << 40) - 1) else {
-        return None;
-    };
+    let word = words.next()?;
+    let n = positive_number(word, (1 << 40) - 1)?;
     Some(FleetNumber { f: n })
 }
 
@@ -185,12 +145,8 @@ fn next_amount(words: &mut Parts) -> Option<u64>
         ((n : ℕ) (more : List (List ℕ)) → n ≤ CAP → words.old ≡ decimal n ∷ more → ⊥)
         (λ n. (n ≤ CAP) × (words.old ≡ decimal n ∷ words.new)) }
 {
-    let Some(word) = words.next() else {
-        return None;
-    };
-    let Some(n) = number(word, CAP) else {
-        return None;
-    };
+    let word = words.next()?;
+    let n = number(word, CAP)?;
     Some(n)
 }
 
@@ -200,15 +156,9 @@ pub fn next_amounts(words: &mut Parts) -> Option<Amounts>
         ((cargo : Amounts) (more : List (List ℕ)) → words.old ≡ decimal cargo.m ∷ decimal cargo.c ∷ decimal cargo.d ∷ more → ⊥)
         (λ cargo. words.old ≡ decimal cargo.m ∷ decimal cargo.c ∷ decimal cargo.d ∷ words.new) }
 {
-    let Some(m) = next_amount(words) else {
-        return None;
-    };
-    let Some(c) = next_amount(words) else {
-        return None;
-    };
-    let Some(d) = next_amount(words) else {
-        return None;
-    };
+    let m = next_amount(words)?;
+    let c = next_amount(words)?;
+    let d = next_amount(words)?;
     Some(Amounts { m, c, d })
 }
 
@@ -218,12 +168,8 @@ pub fn next_ships(words: &mut Parts) -> Option<Ships>
         ((ships : Ships) (more : List (List ℕ)) → words.old ≡ ships_text ships.n ∷ more → ⊥)
         (λ ships. words.old ≡ ships_text ships.n ∷ words.new) }
 {
-    let Some(word) = words.next() else {
-        return None;
-    };
-    let Some(ships) = ships(word) else {
-        return None;
-    };
+    let word = words.next()?;
+    let ships = ships(word)?;
     Some(ships)
 }
 
@@ -233,12 +179,8 @@ pub fn next_system(words: &mut Parts) -> Option<System>
         ((at : System) (more : List (List ℕ)) → words.old ≡ system_text at ∷ more → ⊥)
         (λ at. words.old ≡ system_text at ∷ words.new) }
 {
-    let Some(word) = words.next() else {
-        return None;
-    };
-    let Some(at) = system(word) else {
-        return None;
-    };
+    let word = words.next()?;
+    let at = system(word)?;
     Some(at)
 }
 
@@ -248,12 +190,8 @@ pub fn next_route(words: &mut Parts) -> Option<(Coord, Coord)>
         ((from to : Coord) (more : List (List ℕ)) → words.old ≡ coord_text from ∷ coord_text to ∷ more → ⊥)
         (λ route. words.old ≡ coord_text route.0 ∷ coord_text route.1 ∷ words.new) }
 {
-    let Some(from) = next_coord(words) else {
-        return None;
-    };
-    let Some(to) = next_coord(words) else {
-        return None;
-    };
+    let from = next_coord(words)?;
+    let to = next_coord(words)?;
     Some((from, to))
 }
 
@@ -265,14 +203,8 @@ pub fn next_flight(words: &mut Parts) -> Option<(SpeedSetting, Ships, Amounts)>
         → words.old ≡ flight_words setting ships cargo more → ⊥)
         (λ flight. words.old ≡ flight_words flight.0 flight.1 flight.2 words.new) }
 {
-    let Some(setting) = next_setting(words) else {
-        return None;
-    };
-    let Some(ships) = next_ships(words) else {
-        return None;
-    };
-    let Some(cargo) = next_amounts(words) else {
-        return None;
-    };
+    let setting = next_setting(words)?;
+    let ships = next_ships(words)?;
+    let cargo = next_amounts(words)?;
     Some((setting, ships, cargo))
 }

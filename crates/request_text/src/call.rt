@@ -57,15 +57,9 @@ fn next_untimed(words: &mut Parts) -> Option<Call>
         ((player : Player) (req : Request) → words.old ≡ player_text player ∷ request_words req → ⊥)
         (λ call. (call.reading ≡ None) × (words.old ≡ player_text call.player ∷ request_words call.req)) }
 {
-    let Some(word) = words.next() else {
-        return None;
-    };
-    let Some(player) = player(word) else {
-        return None;
-    };
-    let Some(req) = next_request(words) else {
-        return None;
-    };
+    let word = words.next()?;
+    let player = player(word)?;
+    let req = next_request(words)?;
     Some(Call {
         reading: None,
         player,
@@ -82,15 +76,9 @@ fn next_timed(words: &mut Parts) -> Option<Call>
         (λ call. IsSomeAnd call.reading (λ reading.
         words.old ≡ (64 ∷ decimal reading) ∷ player_text call.player ∷ request_words call.req)) }
 {
-    let Some(word) = words.next() else {
-        return None;
-    };
-    let Some(reading) = told_reading(word) else {
-        return None;
-    };
-    let Some(call) = next_untimed(words) else {
-        return None;
-    };
+    let word = words.next()?;
+    let reading = told_reading(word)?;
+    let call = next_untimed(words)?;
     Some(Call {
         reading: Some(reading),
         player: call.player,

@@ -14,21 +14,11 @@ pub fn coord(word: &[u8]) -> Option<Coord>
         ((at : Coord) → word.now ≡ coord_text at → ⊥)
         (λ at. word.now ≡ coord_text at) }
 {
-    let Some((galaxy, rest)) = cut(word, b':') else {
-        return None;
-    };
-    let Some((system, position)) = cut(rest, b':') else {
-        return None;
-    };
-    let Some(g) = positive_number(galaxy, 9) else {
-        return None;
-    };
-    let Some(s) = positive_number(system, 499) else {
-        return None;
-    };
-    let Some(p) = positive_number(position, 15) else {
-        return None;
-    };
+    let (galaxy, rest) = cut(word, b':')?;
+    let (system, position) = cut(rest, b':')?;
+    let g = positive_number(galaxy, 9)?;
+    let s = positive_number(system, 499)?;
+    let p = positive_number(position, 15)?;
     Some(Coord {
         g: g as u8,
         s: s as u16,
@@ -42,9 +32,7 @@ pub fn player(word: &[u8]) -> Option<Player>
         ((found : Player) → word.now ≡ player_text found → ⊥)
         (λ found. word.now ≡ player_text found) }
 {
-    let Some(k) = positive_number(word, 65535) else {
-        return None;
-    };
+    let k = positive_number(word, 65535)?;
     Some(Player { k: k as u32 })
 }
 
@@ -55,15 +43,9 @@ pub fn system(word: &[u8]) -> Option<System>
         ((at : System) → word.now ≡ system_text at → ⊥)
         (λ at. word.now ≡ system_text at) }
 {
-    let Some((galaxy, number)) = cut(word, b':') else {
-        return None;
-    };
-    let Some(g) = positive_number(galaxy, 9) else {
-        return None;
-    };
-    let Some(s) = positive_number(number, 499) else {
-        return None;
-    };
+    let (galaxy, number) = cut(word, b':')?;
+    let g = positive_number(galaxy, 9)?;
+    let s = positive_number(number, 499)?;
     Some(System {
         g: g as u8,
         s: s as u16,

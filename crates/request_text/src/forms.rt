@@ -35,9 +35,7 @@ pub fn planet(words: &mut Parts) -> Option<Request>
         → words.old ≡ coord_text at ∷ [] → ⊥)
         (IsSpelled Form.Planet words.old) }
 {
-    let Some(at) = next_coord(words) else {
-        return None;
-    };
+    let at = next_coord(words)?;
     if !words.is_at_end() {
         return None;
     }
@@ -71,9 +69,7 @@ pub fn system(words: &mut Parts) -> Option<Request>
         → words.old ≡ system_text system ∷ [] → ⊥)
         (IsSpelled Form.System words.old) }
 {
-    let Some(system) = next_system(words) else {
-        return None;
-    };
+    let system = next_system(words)?;
     if !words.is_at_end() {
         return None;
     }
@@ -87,12 +83,8 @@ pub fn build(words: &mut Parts) -> Option<Request>
         → words.old ≡ coord_text at ∷ kind_word building.kind ∷ [] → ⊥)
         (IsSpelled Form.Build words.old) }
 {
-    let Some(at) = next_coord(words) else {
-        return None;
-    };
-    let Some(building) = next_building(words) else {
-        return None;
-    };
+    let at = next_coord(words)?;
+    let building = next_building(words)?;
     if !words.is_at_end() {
         return None;
     }
@@ -106,12 +98,8 @@ pub fn research(words: &mut Parts) -> Option<Request>
         → words.old ≡ coord_text at ∷ kind_word technology.kind ∷ [] → ⊥)
         (IsSpelled Form.Research words.old) }
 {
-    let Some(at) = next_coord(words) else {
-        return None;
-    };
-    let Some(technology) = next_technology(words) else {
-        return None;
-    };
+    let at = next_coord(words)?;
+    let technology = next_technology(words)?;
     if !words.is_at_end() {
         return None;
     }
@@ -125,15 +113,9 @@ pub fn yard(words: &mut Parts) -> Option<Request>
         → words.old ≡ coord_text at ∷ kind_word unit.kind ∷ decimal count.n ∷ [] → ⊥)
         (IsSpelled Form.Yard words.old) }
 {
-    let Some(at) = next_coord(words) else {
-        return None;
-    };
-    let Some(unit) = next_unit(words) else {
-        return None;
-    };
-    let Some(count) = next_count(words) else {
-        return None;
-    };
+    let at = next_coord(words)?;
+    let unit = next_unit(words)?;
+    let count = next_count(words)?;
     if !words.is_at_end() {
         return None;
     }
@@ -147,15 +129,9 @@ pub fn set(words: &mut Parts) -> Option<Request>
         → words.old ≡ coord_text at ∷ kind_word work.kind ∷ decimal tenths.n ∷ [] → ⊥)
         (IsSpelled Form.Set words.old) }
 {
-    let Some(at) = next_coord(words) else {
-        return None;
-    };
-    let Some(work) = next_work(words) else {
-        return None;
-    };
-    let Some(tenths) = next_tenths(words) else {
-        return None;
-    };
+    let at = next_coord(words)?;
+    let work = next_work(words)?;
+    let tenths = next_tenths(words)?;
     if !words.is_at_end() {
         return None;
     }
@@ -169,15 +145,9 @@ pub fn send(words: &mut Parts) -> Option<Request>
         → words.old ≡ coord_text from ∷ coord_text to ∷ mission_word mission ∷ flight_words setting ships cargo [] → ⊥)
         (IsSpelled Form.Send words.old) }
 {
-    let Some((from, to)) = next_route(words) else {
-        return None;
-    };
-    let Some(mission) = next_mission(words) else {
-        return None;
-    };
-    let Some((setting, ships, cargo)) = next_flight(words) else {
-        return None;
-    };
+    let (from, to) = next_route(words)?;
+    let mission = next_mission(words)?;
+    let (setting, ships, cargo) = next_flight(words)?;
     if !words.is_at_end() {
         return None;
     }
@@ -191,15 +161,9 @@ pub fn join(words: &mut Parts) -> Option<Request>
         → words.old ≡ decimal fleet.f ∷ coord_text from ∷ coord_text to ∷ flight_words setting ships cargo [] → ⊥)
         (IsSpelled Form.Join words.old) }
 {
-    let Some(fleet) = next_fleet(words) else {
-        return None;
-    };
-    let Some((from, to)) = next_route(words) else {
-        return None;
-    };
-    let Some((setting, ships, cargo)) = next_flight(words) else {
-        return None;
-    };
+    let fleet = next_fleet(words)?;
+    let (from, to) = next_route(words)?;
+    let (setting, ships, cargo) = next_flight(words)?;
     if !words.is_at_end() {
         return None;
     }
@@ -213,9 +177,7 @@ pub fn recall(words: &mut Parts) -> Option<Request>
         → words.old ≡ decimal fleet.f ∷ [] → ⊥)
         (IsSpelled Form.Recall words.old) }
 {
-    let Some(fleet) = next_fleet(words) else {
-        return None;
-    };
+    let fleet = next_fleet(words)?;
     if !words.is_at_end() {
         return None;
     }

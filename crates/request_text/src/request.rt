@@ -120,15 +120,9 @@ pub fn next_request(words: &mut Parts) -> Option<Request>
         ((req : Request) → words.old ≡ request_words req → ⊥)
         (λ req. words.old ≡ request_words req) }
 {
-    let Some(word) = words.next() else {
-        return None;
-    };
-    let Some(form) = Form::read(word) else {
-        return None;
-    };
-    let Some(req) = arguments_of(form, words) else {
-        return None;
-    };
+    let word = words.next()?;
+    let form = Form::read(word)?;
+    let req = arguments_of(form, words)?;
     Some(req)
 }
 

@@ -23,9 +23,7 @@ fn next_ship_count(parts: &mut Parts, kind: Kind) -> Option<u32>
     if word != kind.word().as_bytes() {
         return Some(0);
     }
-    let Some(count) = positive_number(number, u64::from(UNITS)) else {
-        return None;
-    };
+    let count = positive_number(number, u64::from(UNITS))?;
     let _ = parts.next();
     Some(count as u32)
 }
@@ -40,9 +38,7 @@ pub fn ships(word: &[u8]) -> Option<Ships>
     let mut n = [0u32; 13];
     let mut parts = Parts::new(word, b',');
     'kinds: for (i, kind) in SHIPS.iter().enumerate() {
-        let Some(count) = next_ship_count(&mut parts, *kind) else {
-            return None;
-        };
+        let count = next_ship_count(&mut parts, *kind)?;
         n[i] = count;
     }
     if !parts.is_at_end() {
