@@ -13,7 +13,7 @@ use std::alloc::{AllocError, Global};
 use tick_model::{Planet, Rules, StrictUniverse, has_player, place_of, planet_at, show_planet};
 
 /// A planet so many seconds later, in constant time.
-#[tactic(auto, using(tick_model::proofs::Standing::planets_later))]
+#[tactic(auto, using(tick_model::proofs::Listing::planets_later))]
 fn after(planet: Planet, rules: Rules, seconds: u64) -> Planet
     ensures { fields_of result ≡ planet_after seconds rules (fields_of planet) }
 {

@@ -14,10 +14,11 @@ use Rattle.request_text.specs.declared.request.Request.TheVariants.{Planet as Pl
 use Rattle.tick_model.specs.Asking.{Asks, brought}
 use Rattle.tick_model.specs.declared.acting.Acted.{Acted}
 use Rattle.tick_model.specs.Strict.{Comes}
+use Rattle.tick_model.specs.declared.acting.TheConstants.{NOT_YOURS}
 use Rattle.tick_model.specs.declared.rules.Rules.{Rules}
 use Rattle.reply_text.specs.declared.reply.Reply.{Reply}
 use Rattle.tick_model.specs.Universe.{Own, of_nothing, of_account, of_planet, Universe, View, view}
-use Rattle.tick_model.specs.Step.{is_there, asked, shown, no_change, write, Outcome, refused, told, planet_outcome, outcome, Stepped, step}
+use Rattle.tick_model.specs.Step.{is_there, asked, shown, no_change, write, Outcome, refused, granted, planet_outcome, outcome, Stepped, step}
 use Rattle.tick_model.specs.Reply.{planet_text}
 
 filter_all : {A : Type 0} (xs : List A) → filter (λ x. true) xs ≡ xs
@@ -94,7 +95,7 @@ same_answer rules s t player (of_planet other) planet = record { code = refl; bo
 same_answer rules s t player of_account of_nothing = record { code = refl; body = refl }
 same_answer rules s t player of_account of_account = record { code = refl; body = refl }
 same_answer rules s t player of_account (of_planet planet) =
-    elim (same_player planet.owner player) as (λ b. SameAnswer (cond b (told (planet_text rules planet) s) (refused 3 s)) (cond b (told (planet_text rules planet) t) (refused 3 t)))
+    elim (same_player planet.owner player) as (λ b. SameAnswer (cond b (granted (planet_text rules planet) s) (refused NOT_YOURS s)) (cond b (granted (planet_text rules planet) t) (refused NOT_YOURS t)))
     [ true ↦ record { code = refl; body = refl } | false ↦ record { code = refl; body = refl } ]
 
 changes_nothing : (rules : Rules) (seen : CellId → View) (player : Player) (account planet : Own) → (planet_outcome rules seen player account planet).change ≡ no_change seen
@@ -103,7 +104,7 @@ changes_nothing rules seen player (of_planet other) planet = refl
 changes_nothing rules seen player of_account of_nothing = refl
 changes_nothing rules seen player of_account of_account = refl
 changes_nothing rules seen player of_account (of_planet planet) =
-    elim (same_player planet.owner player) as (λ b. (cond b (told (planet_text rules planet) seen) (refused 3 seen)).change ≡ no_change seen) [ true ↦ refl | false ↦ refl ]
+    elim (same_player planet.owner player) as (λ b. (cond b (granted (planet_text rules planet) seen) (refused NOT_YOURS seen)).change ≡ no_change seen) [ true ↦ refl | false ↦ refl ]
 
 -- what the account and the planet make of a request for the planet, whatever else is seen
 abbrev pub planet_answer : Universe → Player → Coord → Outcome

@@ -7,7 +7,7 @@ use Rattle.tick_model.specs.Asking.{brought}
 use Rattle.tick_model.specs.Second.{planet_after}
 use Rattle.tick_model.specs.Strict.{fields_of, own_account, own_planet, universe_of}
 use Rattle.tick_model.specs.Universe.{Universe, view}
-use Rattle.tick_model.proofs.Standing.{standing, standing_after}
+use Rattle.tick_model.proofs.Listing.{standing, standing_after}
 use Rattle.tick_model.proofs.Steps.{asks_planet, comes_as}
 use Rattle.command.proofs.asking.ask.Goals as goal
 
