@@ -1,5 +1,6 @@
 -- The words of calls, read one by one.
-use Rattle.std.proofs.Common.{◌≡◌, ℕ, ◌<◌, ◌^◌, Bool, true, false, List, [], ◌∷◌, refl, sym, ap, ◌∙◌, subst, arith, ne_eqb, decimal}
+use Rattle.std.proofs.Common.{◌≡◌, ◌≤◌, ℕ, ◌<◌, ◌^◌, Bool, true, false, List, [], ◌∷◌, refl, sym, ap, ◌∙◌, subst, arith, ne_eqb, decimal}
+use Rattle.ports.specs.declared.clock.TheConstants.{LATEST}
 use Rattle.std.specs.Prelude.{Option, Some, None, MatchOption, IsNone, IsSomeAnd, ◌&&◌}
 use Rattle.base_text.specs.Parts.{Lacks, words}
 use Rattle.base_text.proofs.Lacking.{decimal_lacks_at}
@@ -30,7 +31,7 @@ ReadsUntimed all found = MatchOption found ((player : Player) (req : Request) �
 
 abbrev pub ReadsTimed : List (List ℕ) → Option Call → Type 0
 ReadsTimed all found =
-    MatchOption found ((reading : ℕ) (player : Player) (req : Request) → reading < 2 ^ 40 → all ≡ (64 ∷ decimal reading) ∷ player_text player ∷ request_words req → ⊥)
+    MatchOption found ((reading : ℕ) (player : Player) (req : Request) → reading ≤ LATEST → all ≡ (64 ∷ decimal reading) ∷ player_text player ∷ request_words req → ⊥)
     (λ call. IsSomeAnd call.reading (λ reading. all ≡ (64 ∷ decimal reading) ∷ player_text call.player ∷ request_words call.req))
 
 some_timed : (words : List (List ℕ)) (bytes : List ℕ) (more : List (List ℕ)) → words ≡ (64 ∷ bytes) ∷ more → is_timed words ≡ true
@@ -72,7 +73,7 @@ read_timed true line (Some call) timed read = record { may = tt; same = same cal
     same (Some reading) is read = read ∙ ap (λ r. timed_words r (player_text call.player ∷ request_words call.req)) (sym is)
 
 -- after the reading
-pub no_timed : (old new : List (List ℕ)) (first : List ℕ) → old ≡ first ∷ new → ((player : Player) (req : Request) → new ≡ player_text player ∷ request_words req → ⊥) → (reading : ℕ) (player : Player) (req : Request) → reading < 2 ^ 40 → old ≡ (64 ∷ decimal reading) ∷ player_text player ∷ request_words req → ⊥
+pub no_timed : (old new : List (List ℕ)) (first : List ℕ) → old ≡ first ∷ new → ((player : Player) (req : Request) → new ≡ player_text player ∷ request_words req → ⊥) → (reading : ℕ) (player : Player) (req : Request) → reading ≤ LATEST → old ≡ (64 ∷ decimal reading) ∷ player_text player ∷ request_words req → ⊥
 no_timed old new first cut none reading player req small spells = none player req (tail_same old first (64 ∷ decimal reading) new (player_text player ∷ request_words req) cut spells)
 
 pub ruleset untimed = (no_request)

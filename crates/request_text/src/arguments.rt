@@ -22,7 +22,7 @@ ghost use Rattle.request_text.specs.Flights.{flight_words};
 
 use crate::coordinates::{coord, system};
 use crate::ship_counts::ships;
-use base_ids::{Coord, FleetNumber, System};
+use base_ids::{Coord, FleetNumber, LAST_NUMBER, System};
 use base_text::{Parts, number, positive_number};
 use catalog::{
     Amounts, Building, CAP, Count, Mission, Ships, SpeedSetting, Technology, Tenths, UNITS, Unit,
@@ -135,7 +135,7 @@ pub fn next_fleet(words: &mut Parts) -> Option<FleetNumber>
         (λ fleet. words.old ≡ decimal fleet.f ∷ words.new) }
 {
     let word = words.next()?;
-    let n = positive_number(word, (1 << 40) - 1)?;
+    let n = positive_number(word, LAST_NUMBER)?;
     Some(FleetNumber { f: n })
 }
 

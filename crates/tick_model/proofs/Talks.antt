@@ -25,7 +25,7 @@ told-long base history said lacking read told first before over =
       go_on = λ later more wanting readings bytes talk.
           let now : List ℕ = long_line in
           let longer : Talk base [] (history ++ later) (said ++ first ∷ more) (lacking ++ false ∷ wanting) (read ++ readings) (told ++ (now ++ bytes)) =
-              before.go_on later (first ∷ more) (false ∷ wanting) readings (now ++ bytes) (long history later first more wanting readings bytes over talk) in
+          before.go_on later (first ∷ more) (false ∷ wanting) readings (now ++ bytes) (long history later first more wanting readings bytes over talk) in
           rw (append_assoc said (first ∷ []) more, append_assoc lacking (false ∷ []) wanting, append_assoc told now bytes) longer;
     }
 
@@ -36,7 +36,7 @@ told-bad base history said lacking read told first before short outside =
       go_on = λ later more wanting readings bytes talk.
           let now : List ℕ = bad_line in
           let longer : Talk base [] (history ++ later) (said ++ first ∷ more) (lacking ++ false ∷ wanting) (read ++ readings) (told ++ (now ++ bytes)) =
-              before.go_on later (first ∷ more) (false ∷ wanting) readings (now ++ bytes) (bad history later first more wanting readings bytes short outside talk) in
+          before.go_on later (first ∷ more) (false ∷ wanting) readings (now ++ bytes) (bad history later first more wanting readings bytes short outside talk) in
           rw (append_assoc said (first ∷ []) more, append_assoc lacking (false ∷ []) wanting, append_assoc told now bytes) longer;
     }
 
@@ -47,7 +47,7 @@ told-answered base history said lacking read told first taken call reading entry
       go_on = λ later more wanting readings bytes talk.
           let now : List ℕ = text (reply base history entry) in
           let longer : Talk base [] (history ++ (entry ∷ later)) (said ++ first ∷ more) (lacking ++ false ∷ wanting) (read ++ (taken ++ readings)) (told ++ (now ++ bytes)) =
-              before.go_on (entry ∷ later) (first ∷ more) (false ∷ wanting) (taken ++ readings) (now ++ bytes) (answered history later first more wanting taken readings bytes call reading entry short asks came of talk) in
+          before.go_on (entry ∷ later) (first ∷ more) (false ∷ wanting) (taken ++ readings) (now ++ bytes) (answered history later first more wanting taken readings bytes call reading entry short asks came of talk) in
           rw (append_assoc history (entry ∷ []) later, append_assoc said (first ∷ []) more, append_assoc lacking (false ∷ []) wanting, append_assoc read taken readings, append_assoc told now bytes) longer;
     }
 
@@ -58,7 +58,7 @@ told-unanswered base history said lacking read told first taken call reading bef
       go_on = λ later more wanting readings bytes talk.
           let now : List ℕ = memory_line in
           let longer : Talk base [] (history ++ later) (said ++ first ∷ more) (lacking ++ true ∷ wanting) (read ++ (taken ++ readings)) (told ++ (now ++ bytes)) =
-              before.go_on later (first ∷ more) (true ∷ wanting) (taken ++ readings) (now ++ bytes) (unanswered history later first more wanting taken readings bytes call reading short asks came talk) in
+          before.go_on later (first ∷ more) (true ∷ wanting) (taken ++ readings) (now ++ bytes) (unanswered history later first more wanting taken readings bytes call reading short asks came talk) in
           rw (append_assoc said (first ∷ []) more, append_assoc lacking (true ∷ []) wanting, append_assoc read taken readings, append_assoc told now bytes) longer;
     }
 
