@@ -3,14 +3,12 @@
 
 mod answering;
 mod asking;
-mod commands;
 mod status;
 mod streams;
-#[cfg(test)]
-mod tests;
 
-pub use answering::{Next, answer_lines};
-pub use asking::ask;
-pub use commands::run;
-pub use status::{DONE, NO_MEMORY, NOT_A_COMMAND, NOT_FOUNDED, SINK_FAULT, SOURCE_FAULT, TOO_LONG};
+pub use answering::{Answer, answer_lines};
+pub use asking::answer;
+pub use status::{
+    DONE, NO_MEMORY, NOT_A_COMMAND, NOT_FOUNDED, SINK_FAULT, SOURCE_FAULT, Stopped, TOO_LONG, exit_status,
+};
 pub use streams::write_all;

@@ -6,13 +6,13 @@ use Rattle.base_ids.specs.declared.cell_id.CellId.TheVariants.{Account, Planet}
 use Rattle.tick_model.specs.Asking.{brought}
 use Rattle.tick_model.specs.Second.{planet_after}
 use Rattle.tick_model.specs.Strict.{fields_of, own_account, own_planet, universe_of}
-use Rattle.tick_model.specs.Universe.{Universe, view}
+use Rattle.tick_model.specs.Universe.{view}
 use Rattle.tick_model.proofs.Listing.{standing, standing_after}
-use Rattle.tick_model.proofs.Steps.{asks_planet, comes_as}
-use Rattle.command.proofs.asking.ask.Goals as goal
+use Rattle.tick_model.proofs.Steps.{asked_reply, comes_as}
+use Rattle.command.proofs.asking.reply_to.Goals as goal
 
-pub returns-clause-ok : goal.returns-clause-ok
-returns-clause-ok c =
+pub returns : goal.returns
+returns c =
     let universe = c.args.universe.now in
     let old = universe_of universe in
     let player = c.args.player in
@@ -29,6 +29,5 @@ returns-clause-ok c =
     let account = ap own_account (c.has_player-is_player.ensures ∙ ap (list_any (λ other. same_player other player)) c.deref.ensures.value) in
     let planet = ap own_planet (c.planet_later-planet.ensures ∙ ap (λ xs. find (λ planet. same_coord planet.at at) (map (planet_after seconds universe.rules) (map fields_of xs))) c.deref-2.ensures.value) in
     let acted = comes_as ticked.rules (view ticked) player _ _ (ticked.own (Account player)) (ticked.own (Planet at)) c.in_ok-acted.acted c.in_ok-acted.ensures account planet in
-    asks_planet old ticked _ player c.args.req.now c.args.reading at _ c.place_of-at.ensures (brings ∙ ap (λ m. brought m old) is)
-    (ap (λ (u : Universe). record u { number = old.number + 1 }) (c.advance.ensures ∙ sym brings))
+    asked_reply old ticked player c.args.req.now c.args.reading at _ c.place_of-at.ensures (brings ∙ ap (λ m. brought m old) is)
     (λ i. record { number = old.number + 1; moment = is i; code = acted.0 i; body = acted.1 i })
