@@ -2,7 +2,7 @@
 use Rattle.std.specs.Prelude.{◌≡◌, ℕ, ◌<◌, ◌⊎◌, true, false, List, take, Option}
 use Rattle.std.specs.Io.KnownBytes.{IsAtEnd}
 use Rattle.ports.specs.Causes.{Rose}
-use Rattle.request_text.specs.LineReading.{answered_line, kept, taken, HasEnded, Leaves}
+use Rattle.request_text.specs.LineReading.{answered_line, kept, taken, Leaves}
 use Rattle.request_text.specs.declared.line_reader.TheConstants.{LONGEST_LINE, MOST_TAKEN}
 use Rattle.request_text.specs.declared.line_reader.LineReader.{LineReader}
 use Rattle.request_text.specs.declared.line_reader.Stage.TheVariants.{Open}
