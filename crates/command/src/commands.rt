@@ -1,9 +1,10 @@
-ghost use Rattle.std.specs.Prelude.{◌≡◌, ◌↔◌, ◌⊎◌, ℕ, map, take, string_bytes, IfOk, IsErrOf, IsTrue, OnOk, OnErr};
+ghost use Rattle.std.specs.Prelude.{◌≡◌, ◌↔◌, ◌⊎◌, ℕ, map, take, string_bytes, IfOk, IsErrOf, IsTrue};
 ghost use Rattle.std.specs.Io.KnownBytes.{Appends};
 ghost use Rattle.ports.specs.Causes.{Rose};
 ghost use Rattle.request_text.specs.LineReading.{Known};
 ghost use Rattle.command.specs.Statuses.{HasReason, IsBounded, IsStatus, status_of};
 ghost use Rattle.command.specs.Trial.{IsTrial, Trial, bad_founding};
+ghost use Rattle.command.specs.declared.status.TheConstants.{NOT_A_COMMAND, NO_MEMORY, NOT_FOUNDED};
 
 use crate::answering::answer_lines;
 use crate::status::{Stopped, exit_status};
@@ -32,10 +33,10 @@ fn bad_founding_line(alloc: Global, number: u64) -> Result<String, AllocError>
     format!(in alloc; "bad founding {number}\n")
 }
 
-/// Names the first bad line of a founding text.
+/// Ends a run whose founding text is bad, after it has named the first bad line.
 fn name_bad_line<K: Sink>(alloc: Global, number: u64, sink: &mut K) -> Result<(), Stopped>
-    ensures ends { OnErr result (IsErrOf result Stopped.SinkFault ⊎ IsErrOf result Stopped.NoMemory) }
-    ensures named { OnOk result (Appends (K.written sink.old) (K.written sink.new) (bad_founding number)) }
+    ensures ends { IsErrOf result Stopped.NotFounded ⊎ IsErrOf result Stopped.SinkFault ⊎ IsErrOf result Stopped.NoMemory }
+    ensures named { IsErrOf result Stopped.NotFounded → Appends (K.written sink.old) (K.written sink.new) (bad_founding number) }
     ensures broken { IsErrOf result Stopped.SinkFault → (count : ℕ)
         × Appends (K.written sink.old) (K.written sink.new) (take count (bad_founding number)) }
     ensures sink_fault { IsErrOf result Stopped.SinkFault → Rose (K.faults sink.old) (K.faults sink.new) }
@@ -44,7 +45,7 @@ fn name_bad_line<K: Sink>(alloc: Global, number: u64, sink: &mut K) -> Result<()
 {
     let text = bad_founding_line(alloc, number)?;
     write_all(sink, text.as_bytes())?;
-    Ok(())
+    Err(Stopped::NotFounded)
 }
 
 /// Reads a founding text, and answers the lines that follow it.
@@ -65,10 +66,7 @@ fn trial<S: Source, K: Sink, C: Clock>(
     let mut lines = LineReader::new(alloc)?;
     match founding::read(alloc, &mut lines, source) {
         Ok(mut universe) => answer_lines(alloc, &mut universe, &mut lines, source, clock, sink),
-        Err(FoundingFault::Bad { line }) => {
-            name_bad_line(alloc, line, sink)?;
-            Err(Stopped::NotFounded)
-        }
+        Err(FoundingFault::Bad { line }) => name_bad_line(alloc, line, sink),
         Err(FoundingFault::ReadFault) => Err(Stopped::SourceFault),
         Err(FoundingFault::Spent) => Err(Stopped::TooLong),
         Err(FoundingFault::Memory) => Err(Stopped::NoMemory),

@@ -3,12 +3,17 @@
 
 mod answering;
 mod asking;
+mod commands;
 mod status;
 mod streams;
+#[cfg(test)]
+mod tests;
 
 pub use answering::{Answer, answer_lines};
 pub use asking::answer;
+pub use commands::run;
 pub use status::{
-    DONE, NO_MEMORY, NOT_A_COMMAND, NOT_FOUNDED, SINK_FAULT, SOURCE_FAULT, Stopped, TOO_LONG, exit_status,
+    DONE, NO_MEMORY, NOT_A_COMMAND, NOT_FOUNDED, SINK_FAULT, SOURCE_FAULT, Stopped, TOO_LONG,
+    exit_status,
 };
 pub use streams::write_all;
