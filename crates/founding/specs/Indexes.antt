@@ -1,19 +1,20 @@
--- What the draft in memory stands for, and what its indexes say of its lists.
-use Rattle.std.specs.Prelude.{◌≡◌, ◌≤◌, false, map, length, Option, Some, None, if◌then◌else◌, ℕ, List}
+-- What the draft in memory stands for.
+use Rattle.std.specs.Prelude.{◌≡◌, ◌≤◌, [], map, length, unwrap_or, vec_capacity}
 use Rattle.std.specs.declared.cmp.Ordering.{Ordering}
+use Rattle.std.specs.List.{AllByRecursion}
 use Rattle.std.specs.Ordering.{nat_cmp, ordering_then}
-use Rattle.std.specs.BTreeMap as tree
-use Rattle.std.specs.BTreeSet as sorted
+use Rattle.std.specs.BTreeMap.{get, keys, values}
 use Rattle.base_ids.specs.declared.coord.Coord.{Coord}
 use Rattle.base_ids.specs.declared.player.Player.{Player}
 use Rattle.tick_model.specs.Strict.{fields_of}
-use Rattle.tick_model.specs.Universe.{PlanetFields}
-use Rattle.founding.specs.Drafts.{is_named, is_taken, planets_of, Drafted}
+use Rattle.founding.specs.Drafts.{planets_of, Drafted}
+use Rattle.founding.specs.declared.draft.TheConstants.{MOST_PLANETS, MOST_PLAYERS}
 use Rattle.founding.specs.declared.draft.Draft.{Draft}
 
+-- what the draft has been told
 abbrev pub draft_of : Draft → Drafted
 draft_of draft =
-    record { heading = draft.heading; players = draft.players.items; planets = map fields_of draft.planets.items }
+    record { heading = draft.heading; players = keys draft.players; planets = map fields_of (values draft.planets) }
 
 -- the order of players
 abbrev pub player_order : Player → Player → Ordering
@@ -23,15 +24,14 @@ player_order a b = nat_cmp a.k b.k
 abbrev pub place_order : Coord → Coord → Ordering
 place_order a b = ordering_then (nat_cmp a.g b.g) (ordering_then (nat_cmp a.s b.s) (nat_cmp a.p b.p))
 
--- how many planets a named player has
-abbrev pub owned_of : List Player → List PlanetFields → Player → Option ℕ
-owned_of players planets player = if is_named player players then Some (planets_of player planets) else None
-
--- The indexes are those of the lists: `owned` has the count of planets of each named player, and `places` the
--- places that are taken. Who is not named has no planet.
+-- Each planet is kept under its own place, and for each player the count of the planets that are his, which is 0 for
+-- who isn't named; and the lists of the universe have room.
 pub record IsIndexed (draft : Draft) : Type 0 where
-  pub owned : (player : Player) → tree.get player_order draft.owned player ≡ owned_of (draft_of draft).players (draft_of draft).planets player
-  pub places : (at : Coord) → sorted.contains place_order draft.places at ≡ is_taken at (draft_of draft).planets
-  pub owners : (player : Player) → is_named player (draft_of draft).players ≡ false → planets_of player (draft_of draft).planets ≡ 0
-  pub few_players : length (draft_of draft).players ≤ 10000
-  pub few_planets : length (draft_of draft).planets ≤ 20000
+  pub placed : AllByRecursion (λ entry. entry.1.at ≡ entry.0) draft.planets.entries
+  pub counted : (player : Player) → unwrap_or (get player_order draft.players player) 0 ≡ planets_of player (draft_of draft).planets
+  pub few_players : length (draft_of draft).players ≤ MOST_PLAYERS
+  pub few_planets : length (draft_of draft).planets ≤ MOST_PLANETS
+  pub no_players : draft.player_room.items ≡ []
+  pub no_planets : draft.planet_room.items ≡ []
+  pub player_room : length (draft_of draft).players ≤ vec_capacity draft.player_room
+  pub planet_room : length (draft_of draft).planets ≤ vec_capacity draft.planet_room
