@@ -1,3 +1,5 @@
+pub mod Runs
 pub mod Bringing
 pub mod Locality
 pub mod Preparing
+pub mod Seconds

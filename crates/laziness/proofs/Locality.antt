@@ -2,8 +2,8 @@
 use Rattle.std.proofs.Common.{◌≡◌, ℕ, zero, suc, ◌+◌, ◌-◌, ◌<◌, ◌≤◌, ◌⊎◌, inl, inr, Bool, true, false, List, [], ◌∷◌, Option, None, Some, cond, arith, refl, ap, ◌∙◌, sym, subst}
 use Rattle.laziness.specs.Model.{Model}
 use Rattle.laziness.specs.Laws.{ModelLaws, Stands, ComesFrom, NoneDue, IsNext}
-use Rattle.laziness.specs.Second.{settled, settled_at}
 use Rattle.laziness.specs.Stamps.{Stamps, bring_to, event_acts, happened, IsTimely}
+use Rattle.laziness.proofs.Runs.{acting, Leading, Finds, Run, runs}
 use Rattle.laziness.proofs.Bringing.{test, never, early, until, AlikeAt, Alike, Acts, acts-fine, acts-outside, acts-falls, acts-alike, arises, alike-stands, alike-back, at-inside, at-outside}
 
 -- each event by t has its footprint wholly in a set if a cell of it is there
@@ -12,13 +12,11 @@ IsApart M S t f = (e : M.Event) → Stands M f.universe e → M.second_of e ≤ 
 
 -- these events act, one after another
 abbrev pub after : (M : Model) → List M.Event → Stamps M → Stamps M
-after M [] f = f
-after M (e ∷ es) f = after M es (event_acts M e f)
+after M es f = acting (event_acts M) es f
 
 -- these are the events that cells of a set owe by t, the first one first
 abbrev pub Leads : (M : Model) → (M.Id → Bool) → ℕ → Stamps M → List M.Event → Type 0
-Leads M S t f [] = NoneDue M S t f.universe
-Leads M S t f (e ∷ es) = IsNext M S t f.universe e × Leads M S t (event_acts M e f) es
+Leads M S t f es = Leading (event_acts M) (λ g e. IsNext M S t g.universe e) (λ g. NoneDue M S t g.universe) f es
 
 -- what a run of events keeps
 pub record Good (M : Model) (S : M.Id → Bool) (t : ℕ) (f : Stamps M) : Type 0 where
@@ -195,36 +193,20 @@ locality M L S Q R t in_Q in_R f g es ds good_f good_g apart_f apart_g alike lea
     ∙ sym (of_g.2 x inside t (run-clock M R t ds g leads_g x before_g) (run-clock M S t of_g.0 f of_g.1 x before_f))
 
 -- what the fuel finds is a run
-pub record Ends (M : Model) (S : M.Id → Bool) (t : ℕ) (f g : Stamps M) : Type 0 where
-  pub events : List M.Event
-  pub leads : Leads M S t f events
-  pub is : g ≡ after M events f
+abbrev pub Ends : (M : Model) → (M.Id → Bool) → ℕ → Stamps M → Stamps M → Type 0
+Ends M S t f g = Run (event_acts M) (λ h e. IsNext M S t h.universe e) (λ h. NoneDue M S t h.universe) f g
 
-ends_at : (M : Model) → ModelLaws M → (S : M.Id → Bool) (t : ℕ) (fuel : ℕ) (f : Stamps M) (found : Option M.Event)
-    → M.Fine f.universe → M.next S t f.universe ≡ found
-    → ((e : M.Event) → IsNext M S t f.universe e → Ends M S t (event_acts M e f) (settled (λ g. M.next S t g.universe) (event_acts M) fuel (event_acts M e f)))
-    → Ends M S t f (settled_at (settled (λ g. M.next S t g.universe) (event_acts M) fuel) (event_acts M) f found)
-ends_at M L S t fuel f None fine is rest = record { events = []; leads = L.none_found S t f.universe fine is; is = refl }
-ends_at M L S t fuel f (Some e) fine is rest =
-    let next = L.next_found S t f.universe e fine is in
-    let more = rest e next in
-    record { events = e ∷ more.events; leads = (next, more.leads); is = more.is }
-
-no_next : (M : Model) → ModelLaws M → (S : M.Id → Bool) (t : ℕ) (f : Stamps M) (found : Option M.Event) → M.Fine f.universe → M.next S t f.universe ≡ found → M.measure f.universe ≤ 0 → NoneDue M S t f.universe
-no_next M L S t f None fine is little = L.none_found S t f.universe fine is
-no_next M L S t f (Some e) fine is little =
-    let next = L.next_found S t f.universe e fine is in
-    let falls = acts-falls M L f e (next-acts M S t f e fine next) in
-    absurd (omega (arith, falls, little))
-
-ends_by : (M : Model) → ModelLaws M → (S : M.Id → Bool) (t : ℕ) (fuel : ℕ) (f : Stamps M) → M.Fine f.universe → M.measure f.universe ≤ fuel → Ends M S t f (settled (λ g. M.next S t g.universe) (event_acts M) fuel f)
-ends_by M L S t zero f fine enough = record { events = []; leads = no_next M L S t f (M.next S t f.universe) fine refl enough; is = refl }
-ends_by M L S t (suc fuel) f fine enough =
-    ends_at M L S t fuel f (M.next S t f.universe) fine refl (λ e next.
-      let a = next-acts M S t f e fine next in
-      let falls = acts-falls M L f e a in
-      ends_by M L S t fuel (event_acts M e f) (acts-fine M L f e a) (omega (arith, falls, enough)))
+finds : (M : Model) → ModelLaws M → (S : M.Id → Bool) (t : ℕ)
+    → Finds (λ (g : Stamps M). M.next S t g.universe) (event_acts M) (λ g. M.measure g.universe) (λ g. M.Fine g.universe) (λ g e. IsNext M S t g.universe e) (λ g. NoneDue M S t g.universe)
+finds M L S t = record {
+  found = λ f e fine is. L.next_found S t f.universe e fine is;
+  nothing = λ f fine is. L.none_found S t f.universe fine is;
+  keeps = λ f e fine next. acts-fine M L f e (next-acts M S t f e fine next);
+  falls = λ f e fine next. acts-falls M L f e (next-acts M S t f e fine next);
+}
 
 pub ends : (M : Model) → ModelLaws M → (S : M.Id → Bool) (t : ℕ) (f : Stamps M) → M.Fine f.universe → Ends M S t f (happened M S t f)
 unfolding happened
-ends M L S t f fine = ends_by M L S t (M.measure f.universe) f fine (omega arith)
+ends M L S t f fine =
+    runs (λ (g : Stamps M). M.next S t g.universe) (event_acts M) (λ g. M.measure g.universe) (λ g. M.Fine g.universe) (λ g e. IsNext M S t g.universe e) (λ g. NoneDue M S t g.universe)
+      (finds M L S t) (M.measure f.universe) f fine (omega arith)
