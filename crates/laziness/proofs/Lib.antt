@@ -3,3 +3,5 @@ pub mod Bringing
 pub mod Locality
 pub mod Preparing
 pub mod Seconds
+pub mod Following
+pub mod Asking
