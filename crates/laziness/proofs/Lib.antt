@@ -5,3 +5,4 @@ pub mod Preparing
 pub mod Seconds
 pub mod Following
 pub mod Asking
+pub mod Closures
