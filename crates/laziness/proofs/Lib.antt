@@ -6,3 +6,5 @@ pub mod Seconds
 pub mod Following
 pub mod Asking
 pub mod Closures
+pub mod Worlds
+pub mod Histories
