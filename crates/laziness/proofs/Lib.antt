@@ -8,3 +8,4 @@ pub mod Asking
 pub mod Closures
 pub mod Worlds
 pub mod Histories
+pub mod ParcelLaws

@@ -55,7 +55,10 @@ no_later M L S t f e d apart next stands x has_e has_d =
       | inl due ↦
           let inside : S x ≡ true = apart e next.stands next.due (M.home e) x (L.home e) has_e next.inside in
           let home : S (M.home d) ≡ true = apart d stands due x (M.home d) has_d (L.home d) inside in
-          L.sooner_first e d (next.first d stands home due)
+          elim (early (M.second_of e) (M.second_of d)) [
+            | inl sooner ↦ sooner
+            | inr before ↦ absurd (next.first d stands home due (L.sooner_first d e before))
+          ]
       | inr late ↦ let due = next.due in omega arith
     ]
 

@@ -31,7 +31,7 @@ leads-more M L S s t later (e ∷ es) ds f leads more =
       inside = leads.0.inside;
       due = omega (arith, due, later);
       first = λ d stands home due_d before.
-        let sooner : M.second_of d ≤ M.second_of e = L.first_sooner e d before in
+        let sooner : M.second_of d ≤ M.second_of e = L.first_sooner d e before in
         leads.0.first d stands home (omega (arith, sooner, due)) before;
     } in
     (next, leads-more M L S s t later es ds (event_acts M e f) leads.1 more)

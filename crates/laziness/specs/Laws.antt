@@ -71,9 +71,9 @@ pub record ModelLaws (M : Model) : Type 0 where
   pub advance_asks : (k : M.Id → ℕ) (u : M.Universe) (a : M.Ask) (y : M.Id) → M.asks a (M.view (M.advance k u)) y ≡ true → M.asks a (M.view u) y ≡ true
 
   -- an event acts before those of later seconds
-  pub sooner_first : (e d : M.Event) → (M.Before d e → ⊥) → M.second_of e ≤ M.second_of d
+  pub sooner_first : (e d : M.Event) → M.second_of e < M.second_of d → M.Before e d
   -- and before none of an earlier second
-  pub first_sooner : (e d : M.Event) → M.Before d e → M.second_of d ≤ M.second_of e
+  pub first_sooner : (e d : M.Event) → M.Before e d → M.second_of e ≤ M.second_of d
   -- of two events that stand one acts first
   pub one : (u : M.Universe) (e d : M.Event) → M.Fine u → Stands M u e → Stands M u d → (M.Before e d → ⊥) → (M.Before d e → ⊥) → e ≡ d
   -- an event's home is in its footprint

@@ -6,3 +6,5 @@ pub mod World
 pub mod Stamps
 pub mod Lazy
 pub mod Touch
+pub mod Parcels
+pub mod Theorems

@@ -4,9 +4,9 @@
 ghost use Rattle.std.specs.Prelude.{◌≡◌, ℕ, List};
 ghost use Rattle.laziness.specs.Model.{Model};
 ghost use Rattle.laziness.specs.Laws.{ModelLaws};
-ghost use Rattle.laziness.specs.World.{Base, IsBase, InOrder};
-ghost use Rattle.laziness.specs.Lazy.{lazy};
-ghost use Rattle.laziness.specs.Touch.{StandsFor};
+ghost use Rattle.laziness.specs.Theorems.{LazyEqualsTicking};
+ghost use Rattle.laziness.specs.Parcels.{parcels};
+use std::marker::Brand;
 
 /// A ticking model for each setting.
 pub trait Ticking {
@@ -20,9 +20,20 @@ pub trait Ticking {
     ghost laws: { (setting : Setting) → ModelLaws (model setting) };
 }
 
+impl Ticking for Brand {
+    ghost Setting = { ⊥ };
+    ghost model = { λ none. absurd none };
+    ghost laws = { λ none. absurd none };
+}
+
 /// A try.
-pub fn attempt<T: Ticking>()
-    ensures { (setting : T.Setting) (base : Base (T.model setting)) (history : List (T.model setting).Entry)
-        → IsBase (T.model setting) base → InOrder (T.model setting) base.moment history
-        → StandsFor (T.model setting) base history (lazy (T.model setting) base history) }
+pub fn lazy_equals_ticking<T: Ticking>()
+    ensures { (setting : T.Setting) → LazyEqualsTicking (T.model setting) }
 {}
+
+/// A law.
+pub fn parcels_are_lazy()
+    ensures { LazyEqualsTicking parcels }
+{
+    lazy_equals_ticking::<Brand>()
+}
