@@ -3,15 +3,11 @@ use Rattle.std.proofs.Common.{◌≡◌, ℕ, ◌+◌, ◌-◌, ◌<◌, ◌≤�
 use Rattle.laziness.specs.Model.{Model}
 use Rattle.laziness.specs.Laws.{ModelLaws, Stands, NoneDue, IsClosed, Covers, IsReady, Agree}
 use Rattle.laziness.specs.Second.{everything}
-use Rattle.laziness.specs.Stamps.{Stamps, bring_to, happened, brought, IsTimely}
+use Rattle.laziness.specs.Stamps.{Stamps, bring_to, happened, brought, request_acts, IsTimely}
 use Rattle.laziness.proofs.Bringing.{test, never, early, until, Alike, alike-same, gains-now, view-inside}
 use Rattle.laziness.proofs.Locality.{IsApart, after, Leads, Good, locality, thinned, one_run, ends}
 use Rattle.laziness.proofs.Preparing.{closed-apart, all-apart, good-all, IsPrepared, prepares, ready}
 use Rattle.laziness.proofs.Following.{Follows, happened-clock, happened-none}
-
--- a request acts at t on a set of cells that was brought there
-abbrev pub asked : (M : Model) → (M.Id → Bool) → ℕ → M.Ask → Stamps M → Stamps M
-asked M S t a f = record { universe = M.act a t (brought M S t f).universe; at = (brought M S t f).at }
 
 -- the cells that are not in a set
 abbrev pub others : (M : Model) → (M.Id → Bool) → M.Id → Bool
@@ -90,12 +86,12 @@ meets M L S t a f u follows closed covers =
 
 -- it follows through a request
 pub follows-asked : (M : Model) → ModelLaws M → (S : M.Id → Bool) (t : ℕ) (a : M.Ask) (f : Stamps M) (u : M.Universe) → Follows M t f u → IsClosed M (M.view f.universe) t S → Covers M (M.view f.universe) a S
-    → Follows M t (asked M S t a f) (M.act a t u)
+    → Follows M t (request_acts M S t a f) (M.act a t u)
 follows-asked M L S t a f u follows closed covers =
     let apart = closed-apart M L S t f follows.fine closed in
     let good : Good M S t f = record { fine = follows.fine; timely = follows.timely; apart = apart } in
     let p = brought M S t f in
-    let q = asked M S t a f in
+    let q = request_acts M S t a f in
     let prep : IsPrepared M S t f p = prepares M L S t f good in
     let m = meets M L S t a f u follows closed covers in
     let q_fine : M.Fine q.universe = L.act_fine S t p.universe a m.lazy in

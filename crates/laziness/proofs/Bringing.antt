@@ -116,17 +116,25 @@ pub alike-back : (M : Model) (f g : Stamps M) (x : M.Id) → AlikeAt M f g x →
 alike-back M f g x alike s before before' = sym (alike s before' before)
 
 -- an event that acts on two footprints that are alike leaves them the same
-pub acts-alike : (M : Model) → ModelLaws M → (f g : Stamps M) (e : M.Event) → Acts M f e → Acts M g e
+pub acts-same : (M : Model) → ModelLaws M → (f g : Stamps M) (e : M.Event) → Acts M f e → Acts M g e
     → Alike M (M.footprint e) f g → ((x : M.Id) → M.footprint e x ≡ true → f.at x ≤ M.second_of e) → ((x : M.Id) → M.footprint e x ≡ true → g.at x ≤ M.second_of e)
-    → Alike M (M.footprint e) (event_acts M e f) (event_acts M e g)
-acts-alike M L f g e a b alike early_f early_g x inside =
+    → (x : M.Id) → M.footprint e x ≡ true → M.view (event_acts M e f).universe x ≡ M.view (event_acts M e g).universe x
+acts-same M L f g e a b alike early_f early_g x inside =
     let k = λ (x : M.Id). cond (M.footprint e x) (M.second_of e - f.at x) 0 in
     let l = λ (x : M.Id). cond (M.footprint e x) (M.second_of e - g.at x) 0 in
     let agree : Agree M (M.footprint e) (M.advance k f.universe) (M.advance l g.universe) = λ y inside_y.
       view-inside M L (M.footprint e) (M.second_of e) f y inside_y
       ∙ alike y inside_y (M.second_of e) (early_f y inside_y) (early_g y inside_y)
       ∙ sym (view-inside M L (M.footprint e) (M.second_of e) g y inside_y) in
-    alike-same M (event_acts M e f) (event_acts M e g) x
-      (L.depends (M.advance k f.universe) (M.advance l g.universe) e (L.advance_fine k f.universe a.fine) (L.advance_fine l g.universe b.fine)
-        (stands-advanced M L k f.universe e a.stands) (stands-advanced M L l g.universe e b.stands) agree x inside)
-      (at-inside M (M.footprint e) (M.second_of e) f x inside ∙ sym (at-inside M (M.footprint e) (M.second_of e) g x inside))
+    L.depends (M.advance k f.universe) (M.advance l g.universe) e (L.advance_fine k f.universe a.fine) (L.advance_fine l g.universe b.fine)
+      (stands-advanced M L k f.universe e a.stands) (stands-advanced M L l g.universe e b.stands) agree x inside
+
+-- at the same second
+pub acts-at : (M : Model) (f g : Stamps M) (e : M.Event) (x : M.Id) → M.footprint e x ≡ true → (event_acts M e f).at x ≡ (event_acts M e g).at x
+acts-at M f g e x inside = at-inside M (M.footprint e) (M.second_of e) f x inside ∙ sym (at-inside M (M.footprint e) (M.second_of e) g x inside)
+
+pub acts-alike : (M : Model) → ModelLaws M → (f g : Stamps M) (e : M.Event) → Acts M f e → Acts M g e
+    → Alike M (M.footprint e) f g → ((x : M.Id) → M.footprint e x ≡ true → f.at x ≤ M.second_of e) → ((x : M.Id) → M.footprint e x ≡ true → g.at x ≤ M.second_of e)
+    → Alike M (M.footprint e) (event_acts M e f) (event_acts M e g)
+acts-alike M L f g e a b alike early_f early_g x inside =
+    alike-same M (event_acts M e f) (event_acts M e g) x (acts-same M L f g e a b alike early_f early_g x inside) (acts-at M f g e x inside)

@@ -5,7 +5,7 @@ use Rattle.laziness.specs.Model.{Model}
 use Rattle.laziness.specs.Laws.{ModelLaws, IsClosed, Covers}
 use Rattle.laziness.specs.Second.{everything, second}
 use Rattle.laziness.specs.Closing.{closing}
-use Rattle.laziness.specs.World.{Base, IsBase, InOrder, ticked, world, world_reply}
+use Rattle.laziness.specs.World.{Base, IsBase, InOrder, last_moment, ticked, world, world_reply}
 use Rattle.laziness.specs.Stamps.{Stamps, bring_to, happened, brought}
 use Rattle.laziness.specs.Lazy.{touched, prepared, lazily, lazily_all, stamped, lazy, lazy_reply}
 use Rattle.laziness.specs.Touch.{seen_at, touches, last_after, last_touch, StandsFor}
@@ -15,7 +15,7 @@ use Rattle.laziness.proofs.Preparing.{closed-apart, IsPrepared, prepares}
 use Rattle.laziness.proofs.Following.{Follows, follows-second, follows-itself}
 use Rattle.laziness.proofs.Asking.{Meets, meets, follows-asked}
 use Rattle.laziness.proofs.Closures.{closing-least}
-use Rattle.laziness.proofs.Worlds.{last_moment, last_moment-more, order-more, order-front, order-rest, rises, ticked-idle, world-base, world-before, world-at}
+use Rattle.laziness.proofs.Worlds.{last_moment-more, order-more, order-front, order-rest, rises, ticked-idle, world-base, world-before, world-at}
 
 -- it follows while only seconds pass
 idle : (M : Model) → ModelLaws M → (base : Base M) (es : List M.Entry) (f : Stamps M) (n more : ℕ) → InOrder M base.moment es → last_moment M base.moment es ≤ base.moment + n

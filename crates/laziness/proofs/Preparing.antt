@@ -67,35 +67,41 @@ bring-closed M L S t k u closed x inside y brings =
 bring-covers : (M : Model) → ModelLaws M → (S : M.Id → Bool) (a : M.Ask) (k : M.Id → ℕ) (u : M.Universe) → Covers M (M.view u) a S → Covers M (M.view (M.advance k u)) a S
 bring-covers M L S a k u covers y asked = covers y (L.advance_asks k u a y asked)
 
--- a closed set is closed after its events
+-- a closed set is closed after an event of it
+pub event-closed : (M : Model) → ModelLaws M → (S : M.Id → Bool) (t : ℕ) (e : M.Event) (f : Stamps M) → Good M S t f → IsNext M S t f.universe e
+    → IsClosed M (M.view f.universe) t S → IsClosed M (M.view (event_acts M e f).universe) t S
+event-closed M L S t e f good next closed x inside y brings =
+    let k = λ (x : M.Id). cond (M.footprint e x) (M.second_of e - f.at x) 0 in
+    let fine = L.advance_fine k f.universe good.fine in
+    let stands = stands-advanced M L k f.universe e next.stands in
+    let gained : IsClosed M (M.view (M.advance k f.universe)) t S = bring-closed M L S t k f.universe closed in
+    elim (test (M.footprint e x)) [
+      | inl has ↦ elim (L.widens (M.advance k f.universe) e t x y fine stands has brings) [
+          | inl before ↦ gained x inside y before
+          | inr shared ↦ lies-inside M L S t f e good.apart next y shared
+        ]
+      | inr other ↦ gained x inside y (subst (λ v. M.brings v t y ≡ true) (L.outside (M.advance k f.universe) e x fine stands other) brings)
+    ]
+
+-- and it covers after it what it covered before
+pub event-covers : (M : Model) → ModelLaws M → (S : M.Id → Bool) (t : ℕ) (a : M.Ask) (e : M.Event) (f : Stamps M) → Good M S t f → IsNext M S t f.universe e
+    → Covers M (M.view f.universe) a S → Covers M (M.view (event_acts M e f).universe) a S
+event-covers M L S t a e f good next covers y asked =
+    let k = λ (x : M.Id). cond (M.footprint e x) (M.second_of e - f.at x) 0 in
+    elim (L.asks_after (M.advance k f.universe) e a y (L.advance_fine k f.universe good.fine) (stands-advanced M L k f.universe e next.stands) asked) [
+      | inl before ↦ bring-covers M L S a k f.universe covers y before
+      | inr shared ↦ lies-inside M L S t f e good.apart next y shared
+    ]
+
 run-closed : (M : Model) → ModelLaws M → (S : M.Id → Bool) (t : ℕ) (es : List M.Event) (f : Stamps M) → Good M S t f → Leads M S t f es → IsClosed M (M.view f.universe) t S → IsClosed M (M.view (after M es f).universe) t S
 run-closed M L S t [] f good leads closed = closed
 run-closed M L S t (e ∷ es) f good leads closed =
-    let k = λ (x : M.Id). cond (M.footprint e x) (M.second_of e - f.at x) 0 in
-    let fine = L.advance_fine k f.universe good.fine in
-    let stands = stands-advanced M L k f.universe e leads.0.stands in
-    let gained : IsClosed M (M.view (M.advance k f.universe)) t S = bring-closed M L S t k f.universe closed in
-    let next : IsClosed M (M.view (event_acts M e f).universe) t S = λ x inside y brings. elim (test (M.footprint e x)) [
-      | inl has ↦ elim (L.widens (M.advance k f.universe) e t x y fine stands has brings) [
-          | inl before ↦ gained x inside y before
-          | inr shared ↦ lies-inside M L S t f e good.apart leads.0 y shared
-        ]
-      | inr other ↦ gained x inside y (subst (λ v. M.brings v t y ≡ true) (L.outside (M.advance k f.universe) e x fine stands other) brings)
-    ] in
-    run-closed M L S t es (event_acts M e f) (good-next M L S t f e good leads.0) leads.1 next
+    run-closed M L S t es (event_acts M e f) (good-next M L S t f e good leads.0) leads.1 (event-closed M L S t e f good leads.0 closed)
 
--- and it covers after them what it covered before
 run-covers : (M : Model) → ModelLaws M → (S : M.Id → Bool) (t : ℕ) (a : M.Ask) (es : List M.Event) (f : Stamps M) → Good M S t f → Leads M S t f es → Covers M (M.view f.universe) a S → Covers M (M.view (after M es f).universe) a S
 run-covers M L S t a [] f good leads covers = covers
 run-covers M L S t a (e ∷ es) f good leads covers =
-    let k = λ (x : M.Id). cond (M.footprint e x) (M.second_of e - f.at x) 0 in
-    let fine = L.advance_fine k f.universe good.fine in
-    let stands = stands-advanced M L k f.universe e leads.0.stands in
-    let next : Covers M (M.view (event_acts M e f).universe) a S = λ y asked. elim (L.asks_after (M.advance k f.universe) e a y fine stands asked) [
-      | inl before ↦ bring-covers M L S a k f.universe covers y before
-      | inr shared ↦ lies-inside M L S t f e good.apart leads.0 y shared
-    ] in
-    run-covers M L S t a es (event_acts M e f) (good-next M L S t f e good leads.0) leads.1 next
+    run-covers M L S t a es (event_acts M e f) (good-next M L S t f e good leads.0) leads.1 (event-covers M L S t a e f good leads.0 covers)
 
 -- nothing is due after a run
 pub run-none : (M : Model) (S : M.Id → Bool) (t : ℕ) (es : List M.Event) (f : Stamps M) → Leads M S t f es → NoneDue M S t (after M es f).universe

@@ -4,12 +4,7 @@ use Rattle.std.proofs.lemmas.Bool.Decides.{nat_tests}
 use Rattle.std.proofs.lemmas.List.Elements.{filter-append}
 use Rattle.laziness.specs.Model.{Model}
 use Rattle.laziness.specs.Second.{second}
-use Rattle.laziness.specs.World.{Base, InOrder, acted, at_moment, ticked, world}
-
--- the moment of the last entry
-abbrev pub last_moment : (M : Model) → ℕ → List M.Entry → ℕ
-last_moment M moment [] = moment
-last_moment M moment (entry ∷ later) = last_moment M (M.moment_of entry) later
+use Rattle.laziness.specs.World.{Base, InOrder, last_moment, acted, at_moment, ticked, world}
 
 pub last_moment-more : (M : Model) (moment : ℕ) (es : List M.Entry) (e : M.Entry) → last_moment M moment (es ++ e ∷ []) ≡ M.moment_of e
 last_moment-more M moment [] e = refl

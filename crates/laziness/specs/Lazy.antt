@@ -3,7 +3,7 @@ use Rattle.std.specs.Prelude.{ℕ, Bool, List, [], ◌∷◌}
 use Rattle.laziness.specs.Model.{Model}
 use Rattle.laziness.specs.Closing.{closing}
 use Rattle.laziness.specs.World.{Base}
-use Rattle.laziness.specs.Stamps.{Stamps, brought}
+use Rattle.laziness.specs.Stamps.{Stamps, brought, request_acts}
 
 -- the cells that an entry touches
 abbrev pub touched : (M : Model) → Stamps M → M.Entry → M.Id → Bool
@@ -15,9 +15,7 @@ prepared M entry f = brought M (touched M f entry) (M.moment_of entry) f
 
 -- and it acts there
 abbrev pub lazily : (M : Model) → M.Entry → Stamps M → Stamps M
-lazily M entry f =
-    let b = prepared M entry f in
-    record { universe = M.act (M.ask_of entry) (M.moment_of entry) b.universe; at = b.at }
+lazily M entry f = request_acts M (touched M f entry) (M.moment_of entry) (M.ask_of entry) f
 
 -- entries act in their order
 abbrev pub lazily_all : (M : Model) → List M.Entry → Stamps M → Stamps M

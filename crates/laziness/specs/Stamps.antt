@@ -30,6 +30,12 @@ happened M S t f = settled (λ g. M.next S t g.universe) (event_acts M) (M.measu
 abbrev pub brought : (M : Model) → (M.Id → Bool) → ℕ → Stamps M → Stamps M
 brought M S t f = bring_to M S t (happened M S t f)
 
+-- a request acts on a set of cells that was brought to its second
+abbrev pub request_acts : (M : Model) → (M.Id → Bool) → ℕ → M.Ask → Stamps M → Stamps M
+request_acts M S t a f =
+    let b = brought M S t f in
+    record { universe = M.act a t b.universe; at = b.at }
+
 -- no cell stands later than the second of an event that needs it
 abbrev pub IsTimely : (M : Model) → Stamps M → Type 0
 IsTimely M f = (e : M.Event) → Stands M f.universe e → (x : M.Id) → M.footprint e x ≡ true → f.at x ≤ M.second_of e
