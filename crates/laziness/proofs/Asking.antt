@@ -13,7 +13,7 @@ use Rattle.laziness.proofs.Following.{Follows, happened-clock, happened-none}
 abbrev pub others : (M : Model) → (M.Id → Bool) → M.Id → Bool
 others M S x = not (S x)
 
-not-true : (b : Bool) → not b ≡ true → b ≡ false
+pub not-true : (b : Bool) → not b ≡ true → b ≡ false
 not-true true is = sym is
 not-true false is = refl
 

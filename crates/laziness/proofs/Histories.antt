@@ -51,7 +51,7 @@ follows-later M L base history last f m keeps later =
       (subst (λ k. Follows M (base.moment + k) f (ticked M base history k)) all
         (idle M L base history f (end - base.moment) (m - end) keeps.order last_end start))
 
-keeps-base : (M : Model) → ModelLaws M → (base : Base M) → IsBase M base → Keeps M base [] (λ x. base.moment) (stamped M base)
+pub keeps-base : (M : Model) → ModelLaws M → (base : Base M) → IsBase M base → Keeps M base [] (λ x. base.moment) (stamped M base)
 keeps-base M L base is = record {
   order = tt;
   follows = subst (Follows M base.moment (stamped M base)) (sym (world-base M base)) (follows-itself M L base.moment base.universe is.fine is.none);

@@ -8,4 +8,6 @@ pub mod Asking
 pub mod Closures
 pub mod Worlds
 pub mod Histories
+pub mod Holding
+pub mod Theorems
 pub mod ParcelLaws

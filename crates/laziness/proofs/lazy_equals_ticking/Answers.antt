@@ -1,11 +1,5 @@
 use Rattle.laziness.proofs.lazy_equals_ticking.Goals as goal
-use Rattle.laziness.proofs.Histories.{lazy-stands, lazy-replies}
+use Rattle.laziness.proofs.Theorems.{lazy-equals-ticking}
 
 abbrev pub returns : goal.returns
-returns g c setting =
-    let M = g.T.Ticking.model setting in
-    let L = g.T.Ticking.laws setting in
-    record {
-      stands = lazy-stands M L;
-      replies = lazy-replies M L;
-    }
+returns g c setting = lazy-equals-ticking (g.T.Ticking.model setting) (g.T.Ticking.laws setting)
