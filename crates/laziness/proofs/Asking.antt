@@ -1,13 +1,13 @@
 -- A request acts on a closed set in the lazy universe as it does in the ticking one.
-use Rattle.std.proofs.Common.{◌≡◌, ℕ, ◌+◌, ◌-◌, ◌<◌, ◌≤◌, ◌⊎◌, inl, inr, Bool, true, false, not, List, [], ◌∷◌, arith, refl, ap, ◌∙◌, sym, subst}
+use Rattle.std.proofs.Common.{◌≡◌, ℕ, ◌-◌, ◌<◌, ◌≤◌, ◌⊎◌, inl, inr, Bool, true, false, not, [], arith, refl, ap, ◌∙◌, sym, subst}
 use Rattle.laziness.specs.Model.{Model}
 use Rattle.laziness.specs.Laws.{ModelLaws, Stands, NoneDue, IsClosed, Covers, IsReady, Agree}
 use Rattle.laziness.specs.Second.{everything}
-use Rattle.laziness.specs.Stamps.{Stamps, bring_to, happened, brought, request_acts, IsTimely}
-use Rattle.laziness.proofs.Bringing.{test, never, early, until, Alike, alike-same, gains-now, view-inside}
-use Rattle.laziness.proofs.Locality.{IsApart, after, Leads, Good, locality, thinned, one_run, ends}
-use Rattle.laziness.proofs.Preparing.{closed-apart, all-apart, good-all, IsPrepared, prepares, ready}
-use Rattle.laziness.proofs.Following.{Follows, happened-clock, happened-none}
+use Rattle.laziness.specs.Stamps.{Stamps, happened, brought, request_acts, IsTimely}
+use Rattle.laziness.proofs.Bringing.{test, never, until, Alike, alike-same, gains-now, view-inside}
+use Rattle.laziness.proofs.Locality.{IsApart, Good, locality, ends}
+use Rattle.laziness.proofs.Preparing.{closed-apart, good-all, IsPrepared, prepares, ready}
+use Rattle.laziness.proofs.Following.{Follows}
 
 -- the cells that are not in a set
 abbrev pub others : (M : Model) → (M.Id → Bool) → M.Id → Bool
@@ -41,7 +41,7 @@ same-until M L S t f g fine_f fine_g timely_f timely_g apart_f apart_g alike x i
     let run_g = ends M L (everything M) t g fine_g in
     ap (λ h. until M t h x) run_f.is
     ∙ locality M L S (everything M) (everything M) t (in_all M S) (in_all M S) f g run_f.events run_g.events (good-all M t f fine_f timely_f) (good-all M t g fine_g timely_g)
-        apart_f apart_g alike run_f.leads run_g.leads x inside before_f before_g
+    apart_f apart_g alike run_f.leads run_g.leads x inside before_f before_g
     ∙ sym (ap (λ h. until M t h x) run_g.is)
 
 -- what a prepared set shows is what the ticking universe shows
@@ -53,7 +53,7 @@ prepared-shows M L S t f u follows apart x inside =
     view-inside M L S t (happened M S t f) x inside
     ∙ ap (λ h. until M t h x) run.is
     ∙ locality M L S S (everything M) t (λ y within. within) (in_all M S) f f run.events all.events good (good-all M t f follows.fine follows.timely)
-        apart apart (λ y within s before before'. refl) run.leads all.leads x inside (follows.behind x) (follows.behind x)
+    apart apart (λ y within s before before'. refl) run.leads all.leads x inside (follows.behind x) (follows.behind x)
     ∙ sym (ap (λ h. until M t h x) all.is)
     ∙ follows.is x
 
@@ -116,21 +116,21 @@ follows-asked M L S t a f u follows closed covers =
       | inr late ↦ omega (arith, due, late)
     ] in
     let inside_is : (x : M.Id) → S x ≡ true → until M t (happened M (everything M) t q) x ≡ M.view (M.act a t u) x = λ x inside.
-      let all = ends M L (everything M) t q q_fine in
-      let q_good : Good M S t q = record { fine = q_fine; timely = q_timely; apart = q_apart } in
-      let now : q.at x ≡ t = prep.now x inside in
-      ap (λ h. until M t h x) all.is
-      ∙ locality M L S (everything M) S t (in_all M S) (λ y within. within) q q all.events [] (good-all M t q q_fine q_timely) q_good q_apart q_apart (λ y within s before before'. refl)
-          all.leads q_none x inside (behind x) (behind x)
-      ∙ (λ i. M.gains (t - now i) (M.view q.universe x))
-      ∙ gains-now M L t (M.view q.universe x)
-      ∙ L.act_depends S t p.universe u a m.lazy m.ticking m.count m.agree x inside in
+    let all = ends M L (everything M) t q q_fine in
+    let q_good : Good M S t q = record { fine = q_fine; timely = q_timely; apart = q_apart } in
+    let now : q.at x ≡ t = prep.now x inside in
+    ap (λ h. until M t h x) all.is
+    ∙ locality M L S (everything M) S t (in_all M S) (λ y within. within) q q all.events [] (good-all M t q q_fine q_timely) q_good q_apart q_apart (λ y within s before before'. refl)
+    all.leads q_none x inside (behind x) (behind x)
+    ∙ (λ i. M.gains (t - now i) (M.view q.universe x))
+    ∙ gains-now M L t (M.view q.universe x)
+    ∙ L.act_depends S t p.universe u a m.lazy m.ticking m.count m.agree x inside in
     let outside_is : (x : M.Id) → S x ≡ false → until M t (happened M (everything M) t q) x ≡ M.view (M.act a t u) x = λ x outside.
-      let alike : Alike M (others M S) q f = λ y other. alike-same M q f y
-        (L.act_outside S t p.universe a y m.lazy (not-true (S y) other) ∙ prep.view y (not-true (S y) other)) (prep.at y (not-true (S y) other)) in
-      same-until M L (others M S) t q f q_fine follows.fine q_timely follows.timely (apart-others M S t q q_apart) (apart-others M S t f apart) alike x (not-false (S x) outside) (behind x) (follows.behind x)
-      ∙ follows.is x
-      ∙ sym (L.act_outside S t u a x m.ticking outside) in
+    let alike : Alike M (others M S) q f = λ y other. alike-same M q f y
+    (L.act_outside S t p.universe a y m.lazy (not-true (S y) other) ∙ prep.view y (not-true (S y) other)) (prep.at y (not-true (S y) other)) in
+    same-until M L (others M S) t q f q_fine follows.fine q_timely follows.timely (apart-others M S t q q_apart) (apart-others M S t f apart) alike x (not-false (S x) outside) (behind x) (follows.behind x)
+    ∙ follows.is x
+    ∙ sym (L.act_outside S t u a x m.ticking outside) in
     record {
       fine = q_fine;
       fine_ticking = L.act_fine S t u a m.ticking;
@@ -139,9 +139,9 @@ follows-asked M L S t a f u follows closed covers =
       behind = behind;
       none = λ d stands home due. elim (test (S (M.home d))) [
         | inl inside ↦ elim (L.act_arises S t u a d m.ticking inside stands) [
-            | inl before ↦ follows.none d before refl due
-            | inr late ↦ omega (arith, due, late)
-          ]
+          | inl before ↦ follows.none d before refl due
+          | inr late ↦ omega (arith, due, late)
+        ]
         | inr outside ↦ follows.none d (subst (λ v. M.Owes v d) (L.act_outside S t u a (M.home d) m.ticking outside) stands) refl due
       ];
       is = λ x. elim (test (S x)) [ inl inside ↦ inside_is x inside | inr outside ↦ outside_is x outside ];

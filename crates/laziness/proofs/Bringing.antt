@@ -83,7 +83,7 @@ pub acts-falls : (M : Model) → ModelLaws M → (f : Stamps M) (e : M.Event) �
 acts-falls M L f e a =
     let k = λ (x : M.Id). cond (M.footprint e x) (M.second_of e - f.at x) 0 in
     subst (λ n. M.measure (event_acts M e f).universe < n) (L.advance_measure k f.universe)
-      (L.falls (M.advance k f.universe) e (L.advance_fine k f.universe a.fine) (stands-advanced M L k f.universe e a.stands))
+    (L.falls (M.advance k f.universe) e (L.advance_fine k f.universe a.fine) (stands-advanced M L k f.universe e a.stands))
 
 -- an event that stands after another one stood before, or it is later and comes from it
 pub arises : (M : Model) → ModelLaws M → (f : Stamps M) (e d : M.Event) → Acts M f e → Stands M (event_acts M e f).universe d
@@ -92,12 +92,15 @@ arises M L f e d a stands =
     let k = λ (x : M.Id). cond (M.footprint e x) (M.second_of e - f.at x) 0 in
     elim (test (M.footprint e (M.home d))) [
       | inl inside ↦ elim (L.arises (M.advance k f.universe) e d (L.advance_fine k f.universe a.fine) (stands-advanced M L k f.universe e a.stands) inside stands) [
-          | inl before ↦ inl (stands-before M L k f.universe d before)
-          | inr new ↦ inr (new.0, elim new.1 [
-              | inl within ↦ inl within
-              | inr other ↦ inr (other.0, stands-before M L k f.universe other.0 other.1, other.2, other.3, other.4)
-            ])
-        ]
+        | inl before ↦ inl (stands-before M L k f.universe d before)
+        | inr new ↦ inr (
+          new.0,
+          elim new.1 [
+            | inl within ↦ inl within
+            | inr other ↦ inr (other.0, stands-before M L k f.universe other.0 other.1, other.2, other.3, other.4)
+          ],
+        )
+      ]
       | inr outside ↦ inl (subst (λ v. M.Owes v d) (acts-outside M L f e (M.home d) a outside) stands)
     ]
 
@@ -106,7 +109,7 @@ pub alike-stands : (M : Model) → ModelLaws M → (f g : Stamps M) (e : M.Event
 alike-stands M L f g e alike stands =
     let s = f.at (M.home e) + g.at (M.home e) in
     L.gains_make_none (s - g.at (M.home e)) (M.view g.universe (M.home e)) e
-      (subst (λ v. M.Owes v e) (alike s (omega arith) (omega arith)) (L.gains_keep (s - f.at (M.home e)) (M.view f.universe (M.home e)) e stands))
+    (subst (λ v. M.Owes v e) (alike s (omega arith) (omega arith)) (L.gains_keep (s - f.at (M.home e)) (M.view f.universe (M.home e)) e stands))
 
 -- cells that are the same at the same second are alike
 pub alike-same : (M : Model) (f g : Stamps M) (x : M.Id) → M.view f.universe x ≡ M.view g.universe x → f.at x ≡ g.at x → AlikeAt M f g x
@@ -123,11 +126,11 @@ acts-same M L f g e a b alike early_f early_g x inside =
     let k = λ (x : M.Id). cond (M.footprint e x) (M.second_of e - f.at x) 0 in
     let l = λ (x : M.Id). cond (M.footprint e x) (M.second_of e - g.at x) 0 in
     let agree : Agree M (M.footprint e) (M.advance k f.universe) (M.advance l g.universe) = λ y inside_y.
-      view-inside M L (M.footprint e) (M.second_of e) f y inside_y
-      ∙ alike y inside_y (M.second_of e) (early_f y inside_y) (early_g y inside_y)
-      ∙ sym (view-inside M L (M.footprint e) (M.second_of e) g y inside_y) in
+    view-inside M L (M.footprint e) (M.second_of e) f y inside_y
+    ∙ alike y inside_y (M.second_of e) (early_f y inside_y) (early_g y inside_y)
+    ∙ sym (view-inside M L (M.footprint e) (M.second_of e) g y inside_y) in
     L.depends (M.advance k f.universe) (M.advance l g.universe) e (L.advance_fine k f.universe a.fine) (L.advance_fine l g.universe b.fine)
-      (stands-advanced M L k f.universe e a.stands) (stands-advanced M L l g.universe e b.stands) agree x inside
+    (stands-advanced M L k f.universe e a.stands) (stands-advanced M L l g.universe e b.stands) agree x inside
 
 -- at the same second
 pub acts-at : (M : Model) (f g : Stamps M) (e : M.Event) (x : M.Id) → M.footprint e x ≡ true → (event_acts M e f).at x ≡ (event_acts M e g).at x

@@ -1,8 +1,8 @@
 -- The closure by rounds over the directory is the least closed set.
-use Rattle.std.proofs.Common.{◌≡◌, ℕ, zero, suc, ◌+◌, ◌<◌, ◌≤◌, ◌⊎◌, inl, inr, Bool, true, false, ◌&&◌, ◌||◌, cond, List, [], ◌∷◌, length, Contains, slice_index_or, arith, refl, ap, ◌∙◌, sym, subst}
+use Rattle.std.proofs.Common.{◌≡◌, ℕ, zero, suc, ◌+◌, ◌<◌, ◌≤◌, ◌⊎◌, inl, inr, Bool, true, false, ◌&&◌, ◌||◌, cond, List, [], ◌∷◌, length, Contains, slice_index_or, arith, refl, ap, ◌∙◌, sym}
 use Rattle.std.specs.List.{list_any}
 use Rattle.laziness.specs.Model.{Model}
-use Rattle.laziness.specs.Laws.{ModelLaws, IsClosed, Covers}
+use Rattle.laziness.specs.Laws.{ModelLaws, IsClosed}
 use Rattle.laziness.specs.Closing.{round, rounds, closing, IsLeast}
 use Rattle.laziness.proofs.Bringing.{test, never}
 
@@ -112,12 +112,12 @@ new_or_none S R (y ∷ ys) =
     elim (new_or_none S R ys) [
       | inl new ↦ inl (new.0, inr new.1, new.2, new.3)
       | inr none ↦ elim (test (S y)) [
-          | inl old ↦ inr (λ x has is. elim has [ inl same ↦ ap S (sym same) ∙ old | inr there ↦ none x there is ])
-          | inr out ↦ elim (test (R y)) [
-              | inl new ↦ inl (y, inl refl, out, new)
-              | inr out' ↦ inr (λ x has is. elim has [ inl same ↦ never (R y) (ap R same ∙ is) out' | inr there ↦ none x there is ])
-            ]
+        | inl old ↦ inr (λ x has is. elim has [ inl same ↦ ap S (sym same) ∙ old | inr there ↦ none x there is ])
+        | inr out ↦ elim (test (R y)) [
+          | inl new ↦ inl (y, inl refl, out, new)
+          | inr out' ↦ inr (λ x has is. elim has [ inl same ↦ never (R y) (ap R same ∙ is) out' | inr there ↦ none x there is ])
         ]
+      ]
     ]
 
 -- all of a set is listed
@@ -171,11 +171,11 @@ closed-or-large M seen t S brings listed (suc n) =
     elim (closed-or-large M seen t S brings listed n) [
       | inl closed ↦ inl (round-closed M seen t old closed)
       | inr large ↦ elim (new_or_none old (round M seen t old) M.ids) [
-          | inl new ↦
-              let more : sized old M.ids < sized (round M seen t old) M.ids = sized-new old (round M seen t old) (round-keeps M seen t old) M.ids new.0 new.1 new.2 new.3 in
-              inr (omega (arith, large, more))
-          | inr none ↦ inl (round-closed M seen t old (none-closed M seen t old brings (rounds-listed M seen t n S brings listed) none))
-        ]
+        | inl new ↦
+            let more : sized old M.ids < sized (round M seen t old) M.ids = sized-new old (round M seen t old) (round-keeps M seen t old) M.ids new.0 new.1 new.2 new.3 in
+            inr (omega (arith, large, more))
+        | inr none ↦ inl (round-closed M seen t old (none-closed M seen t old brings (rounds-listed M seen t n S brings listed) none))
+      ]
     ]
 
 rounds-keep : (M : Model) (seen : M.Id → M.View) (t n : ℕ) (S : M.Id → Bool) (y : M.Id) → S y ≡ true → rounds M seen t n S y ≡ true

@@ -1,13 +1,13 @@
 -- The lazy universe follows the ticking one: brought to the same second, with all that is due, it shows the same.
-use Rattle.std.proofs.Common.{◌≡◌, ℕ, ◌+◌, ◌-◌, ◌<◌, ◌≤◌, inl, inr, Bool, true, false, List, [], ◌∷◌, ◌++◌, arith, refl, ap, ◌∙◌, sym, subst}
+use Rattle.std.proofs.Common.{◌≡◌, ℕ, ◌+◌, ◌-◌, ◌≤◌, inl, inr, Bool, true, List, [], ◌∷◌, ◌++◌, arith, refl, ap, ◌∙◌, sym, subst}
 use Rattle.laziness.specs.Model.{Model}
-use Rattle.laziness.specs.Laws.{ModelLaws, Stands, NoneDue}
+use Rattle.laziness.specs.Laws.{ModelLaws, NoneDue}
 use Rattle.laziness.specs.Second.{everything, second}
 use Rattle.laziness.specs.Stamps.{Stamps, happened, IsTimely}
 use Rattle.laziness.proofs.Bringing.{early, until, Alike, gains-until, gains-now}
-use Rattle.laziness.proofs.Locality.{IsApart, after, Leads, Good, good-run, one_run, locality, run-clock, Ends, ends}
+use Rattle.laziness.proofs.Locality.{after, Leads, Good, good-run, one_run, locality, run-clock, ends}
 use Rattle.laziness.proofs.Preparing.{all-apart, good-all, after-more, leads-more}
-use Rattle.laziness.proofs.Seconds.{stand, gained, Shows, Ticks, ticks}
+use Rattle.laziness.proofs.Seconds.{stand, gained, ticks}
 
 -- the lazy universe f, whose cells stand at t or before, against the ticking universe u, which stands at t
 pub record Follows (M : Model) (t : ℕ) (f : Stamps M) (u : M.Universe) : Type 0 where
@@ -43,7 +43,7 @@ happened-more M L s t f later fine timely =
     let two = ends M L S t middle good_middle.fine in
     let all = ends M L S t f fine in
     let same : all.events ≡ one.events ++ two.events =
-      one_run M L S t all.events (one.events ++ two.events) f (good-all M t f fine timely) all.leads (leads-more M L S s t later one.events two.events f one.leads two.leads) in
+    one_run M L S t all.events (one.events ++ two.events) f (good-all M t f fine timely) all.leads (leads-more M L S s t later one.events two.events f one.leads two.leads) in
     all.is ∙ ap (λ es. after M es f) same ∙ after-more M one.events two.events f ∙ sym two.is ∙ ap (happened M S t) (sym one.is)
 
 -- it follows through a second
@@ -58,14 +58,14 @@ follows-second M L s t f u next follows =
     let n_good_t : Good M S t n = good-all M t n n_good.fine n_good.timely in
     let n_clock : (x : M.Id) → n.at x ≤ s = λ x. happened-clock M L S s f follows.fine x (follows.behind x) in
     let alike : Alike M S n v = λ x inside r before before'.
-      let to_s : n.at x ≤ s = n_clock x in
-      let to_r : s ≤ r = omega (arith, next, before') in
-      let one : 1 + (r - t) ≡ r - s = omega (arith, next, before') in
-      sym (gains-until M L s r (n.at x) (M.view n.universe x) to_s to_r)
-      ∙ ap (M.gains (r - s)) (follows.is x)
-      ∙ ap (λ k. M.gains k (M.view u x)) (sym one)
-      ∙ sym (L.gains_more 1 (r - t) (M.view u x))
-      ∙ ap (M.gains (r - t)) (sym (L.advanced (λ y. 1) u x)) in
+    let to_s : n.at x ≤ s = n_clock x in
+    let to_r : s ≤ r = omega (arith, next, before') in
+    let one : 1 + (r - t) ≡ r - s = omega (arith, next, before') in
+    sym (gains-until M L s r (n.at x) (M.view n.universe x) to_s to_r)
+    ∙ ap (M.gains (r - s)) (follows.is x)
+    ∙ ap (λ k. M.gains k (M.view u x)) (sym one)
+    ∙ sym (L.gains_more 1 (r - t) (M.view u x))
+    ∙ ap (M.gains (r - t)) (sym (L.advanced (λ y. 1) u x)) in
     let run_n = ends M L S t n n_good.fine in
     let run_v = ends M L S t v tick.good.fine in
     record {
@@ -76,15 +76,15 @@ follows-second M L s t f u next follows =
       behind = λ x. let before : f.at x ≤ s = follows.behind x in omega (arith, before, later);
       none = tick.none;
       is = λ x.
-        let before_n : n.at x ≤ t = let to_s : n.at x ≤ s = n_clock x in omega (arith, to_s, later) in
-        let before_v : v.at x ≤ t = omega arith in
-        let h = happened M S t v in
-        ap (λ g. until M t g x) (happened-more M L s t f later follows.fine follows.timely ∙ run_n.is)
-        ∙ locality M L S S S t (everywhere M) (everywhere M) n v run_n.events run_v.events n_good_t tick.good (all-apart M t n) (all-apart M t v) alike run_n.leads run_v.leads x refl before_n before_v
-        ∙ ap (λ g. until M t g x) (sym run_v.is)
-        ∙ (λ i. M.gains (t - tick.shows.at x i) (M.view h.universe x))
-        ∙ gains-now M L t (M.view h.universe x)
-        ∙ tick.shows.view x;
+          let before_n : n.at x ≤ t = let to_s : n.at x ≤ s = n_clock x in omega (arith, to_s, later) in
+          let before_v : v.at x ≤ t = omega arith in
+          let h = happened M S t v in
+          ap (λ g. until M t g x) (happened-more M L s t f later follows.fine follows.timely ∙ run_n.is)
+          ∙ locality M L S S S t (everywhere M) (everywhere M) n v run_n.events run_v.events n_good_t tick.good (all-apart M t n) (all-apart M t v) alike run_n.leads run_v.leads x refl before_n before_v
+          ∙ ap (λ g. until M t g x) (sym run_v.is)
+          ∙ (λ i. M.gains (t - tick.shows.at x i) (M.view h.universe x))
+          ∙ gains-now M L t (M.view h.universe x)
+          ∙ tick.shows.view x;
     }
 
 -- nothing happens where nothing is due

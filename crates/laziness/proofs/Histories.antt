@@ -1,19 +1,17 @@
 -- The lazy universe stands for the ticking one after every history, and answers as it does.
-use Rattle.std.proofs.Common.{◌≡◌, ℕ, zero, suc, ◌+◌, ◌-◌, ◌<◌, ◌≤◌, ◌⊎◌, inl, inr, Bool, true, false, cond, List, [], ◌∷◌, ◌++◌, arith, refl, ap, ◌∙◌, sym, subst, append_assoc, append-nil}
+use Rattle.std.proofs.Common.{◌≡◌, ℕ, zero, suc, ◌+◌, ◌-◌, ◌≤◌, inl, inr, false, cond, List, [], ◌∷◌, ◌++◌, arith, refl, ap, ◌∙◌, sym, subst, append_assoc, append-nil}
 use Rattle.std.proofs.Math.Path.{fun_ext}
 use Rattle.laziness.specs.Model.{Model}
-use Rattle.laziness.specs.Laws.{ModelLaws, IsClosed, Covers}
-use Rattle.laziness.specs.Second.{everything, second}
+use Rattle.laziness.specs.Laws.{ModelLaws}
 use Rattle.laziness.specs.Closing.{closing}
 use Rattle.laziness.specs.World.{Base, IsBase, InOrder, last_moment, ticked, world, world_reply}
-use Rattle.laziness.specs.Stamps.{Stamps, bring_to, happened, brought}
+use Rattle.laziness.specs.Stamps.{Stamps}
 use Rattle.laziness.specs.Lazy.{touched, prepared, lazily, lazily_all, stamped, lazy, lazy_reply}
 use Rattle.laziness.specs.Touch.{seen_at, touches, last_after, last_touch, StandsFor}
-use Rattle.laziness.proofs.Bringing.{test, early, view-inside}
-use Rattle.laziness.proofs.Locality.{Good}
+use Rattle.laziness.proofs.Bringing.{test, early}
 use Rattle.laziness.proofs.Preparing.{closed-apart, IsPrepared, prepares}
 use Rattle.laziness.proofs.Following.{Follows, follows-second, follows-itself}
-use Rattle.laziness.proofs.Asking.{Meets, meets, follows-asked}
+use Rattle.laziness.proofs.Asking.{meets, follows-asked}
 use Rattle.laziness.proofs.Closures.{closing-least}
 use Rattle.laziness.proofs.Worlds.{last_moment-more, order-more, order-front, order-rest, rises, ticked-idle, world-base, world-before, world-at}
 
@@ -26,8 +24,8 @@ idle M L base es f n (suc more) order last follows =
     let next : base.moment + suc (n + more) ≡ (base.moment + (n + more)) + 1 = omega arith in
     let later : last_moment M base.moment es ≤ base.moment + (n + more) = omega (arith, last) in
     subst (λ k. Follows M (base.moment + k) f (ticked M base es k)) longer
-      (subst (Follows M (base.moment + suc (n + more)) f) (sym (ticked-idle M base es (n + more) order later))
-        (follows-second M L (base.moment + (n + more)) (base.moment + suc (n + more)) f (ticked M base es (n + more)) next (idle M L base es f n more order last follows)))
+    (subst (Follows M (base.moment + suc (n + more)) f) (sym (ticked-idle M base es (n + more) order later))
+    (follows-second M L (base.moment + (n + more)) (base.moment + suc (n + more)) f (ticked M base es (n + more)) next (idle M L base es f n more order last follows)))
 
 -- what holds of the lazy universe after a history
 pub record Keeps (M : Model) (base : Base M) (history : List M.Entry) (last : M.Id → ℕ) (f : Stamps M) : Type 0 where
@@ -48,8 +46,8 @@ follows-later M L base history last f m keeps later =
     let now : base.moment + (m - base.moment) ≡ m = omega (arith, began, later) in
     let last_end : end ≤ base.moment + (end - base.moment) = omega (arith, began) in
     subst (λ t. Follows M t f (world M base history m)) now
-      (subst (λ k. Follows M (base.moment + k) f (ticked M base history k)) all
-        (idle M L base history f (end - base.moment) (m - end) keeps.order last_end start))
+    (subst (λ k. Follows M (base.moment + k) f (ticked M base history k)) all
+    (idle M L base history f (end - base.moment) (m - end) keeps.order last_end start))
 
 pub keeps-base : (M : Model) → ModelLaws M → (base : Base M) → IsBase M base → Keeps M base [] (λ x. base.moment) (stamped M base)
 keeps-base M L base is = record {
@@ -80,7 +78,7 @@ keeps-next M L base history last f e keeps later =
     let least = closing-least M L f.universe m a follows.fine in
     let meet = meets M L S m a f u follows least.closed least.covers in
     let prep : IsPrepared M S m f (prepared M e f) =
-      prepares M L S m f (record { fine = follows.fine; timely = follows.timely; apart = closed-apart M L S m f follows.fine least.closed }) in
+    prepares M L S m f (record { fine = follows.fine; timely = follows.timely; apart = closed-apart M L S m f follows.fine least.closed }) in
     let acts : world M base (history ++ e ∷ []) m ≡ M.act a m u = world-at M base history e since_e in
     let at_is : (x : M.Id) → g.at x ≡ cond (S x) m (f.at x) = λ x. elim (test (S x)) [
       | inl inside ↦ prep.now x inside ∙ sym (ap (λ b. cond b m (f.at x)) inside)
@@ -90,7 +88,7 @@ keeps-next M L base history last f e keeps later =
     record {
       order = order-more M base.moment history e keeps.order later;
       follows = subst (λ t. Follows M t g (world M base (history ++ e ∷ []) t)) (sym (last_moment-more M base.moment history e))
-        (subst (Follows M m g) (sym acts) (follows-asked M L S m a f u follows least.closed least.covers));
+          (subst (Follows M m g) (sym acts) (follows-asked M L S m a f u follows least.closed least.covers));
       since = λ x. elim (test (S x)) [
         | inl inside ↦ let now : g.at x ≡ m = prep.now x inside in omega (arith, now, since_e)
         | inr outside ↦ let same : g.at x ≡ f.at x = prep.at x outside in let before : base.moment ≤ f.at x = keeps.since x in omega (arith, same, before)
@@ -128,7 +126,7 @@ keeps-all M L base before (e ∷ later) last f keeps order =
     let more = subst (λ t. InOrder M t later) (sym (last_moment-more M base.moment before e)) order.1 in
     let last' = λ (x : M.Id). cond (touches M base before last e x) (M.moment_of e) (last x) in
     subst (λ h. Keeps M base h (last_after M base (before ++ e ∷ []) last' later) (lazily_all M later (lazily M e f))) (append_assoc before (e ∷ []) later)
-      (keeps-all M L base (before ++ e ∷ []) later last' (lazily M e f) next more)
+    (keeps-all M L base (before ++ e ∷ []) later last' (lazily M e f) next more)
 
 pub keeps : (M : Model) → ModelLaws M → (base : Base M) (history : List M.Entry) → IsBase M base → InOrder M base.moment history → Keeps M base history (last_touch M base history) (lazy M base history)
 keeps M L base history is order = keeps-all M L base [] history (λ x. base.moment) (stamped M base) (keeps-base M L base is) order

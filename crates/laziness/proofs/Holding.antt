@@ -1,13 +1,12 @@
 -- What becomes of a set of cells depends on these cells alone.
-use Rattle.std.proofs.Common.{◌≡◌, ℕ, ◌+◌, ◌-◌, ◌<◌, ◌≤◌, inl, inr, Bool, true, false, List, [], ◌∷◌, arith, refl, ap, ◌∙◌, sym, subst}
+use Rattle.std.proofs.Common.{◌≡◌, ℕ, ◌≤◌, inl, inr, Bool, ◌∷◌, arith, ap, ◌∙◌, sym}
 use Rattle.laziness.specs.Model.{Model}
-use Rattle.laziness.specs.Laws.{ModelLaws, Stands, NoneDue, IsNext, IsClosed, Covers, IsReady}
+use Rattle.laziness.specs.Laws.{ModelLaws, IsNext, Covers, IsReady}
 use Rattle.laziness.specs.Stamps.{Stamps, event_acts, happened, brought, request_acts, AgreeStamped}
 use Rattle.laziness.specs.Theorems.{CanBring, FirstActs}
-use Rattle.laziness.proofs.Bringing.{test, until, Alike, Acts, alike-same, alike-stands, acts-same, acts-at, acts-fine, acts-outside, acts-falls, view-inside, at-inside, at-outside}
-use Rattle.laziness.proofs.Locality.{after, Leads, Good, next-acts, good-next, one_run, locality, ends}
-use Rattle.laziness.proofs.Preparing.{closed-apart, lies-inside, event-closed, event-covers, IsPrepared, prepares, ready}
-use Rattle.laziness.proofs.Following.{happened-none}
+use Rattle.laziness.proofs.Bringing.{test, until, Alike, alike-same, alike-stands, acts-same, acts-at, acts-outside, acts-falls, view-inside, at-inside, at-outside}
+use Rattle.laziness.proofs.Locality.{after, Good, next-acts, good-next, one_run, locality, ends}
+use Rattle.laziness.proofs.Preparing.{closed-apart, lies-inside, event-closed, event-covers, prepares, ready}
 
 can-good : (M : Model) → ModelLaws M → (S : M.Id → Bool) (t : ℕ) (f : Stamps M) → CanBring M S t f → Good M S t f
 can-good M L S t f can = record { fine = can.fine; timely = can.timely; apart = closed-apart M L S t f can.fine can.closed }
@@ -84,12 +83,12 @@ same-brought M L S t f g can_f can_g agree =
     let run_g = ends M L S t g can_g.fine in
     record {
       view = λ x inside.
-        view-inside M L S t (happened M S t f) x inside
-        ∙ ap (λ h. until M t h x) run_f.is
-        ∙ locality M L S S S t (λ y within. within) (λ y within. within) f g run_f.events run_g.events good_f good_g good_f.apart good_g.apart (agree-alike M S f g agree) run_f.leads run_g.leads
-            x inside (can_f.behind x inside) (can_g.behind x inside)
-        ∙ sym (ap (λ h. until M t h x) run_g.is)
-        ∙ sym (view-inside M L S t (happened M S t g) x inside);
+          view-inside M L S t (happened M S t f) x inside
+          ∙ ap (λ h. until M t h x) run_f.is
+          ∙ locality M L S S S t (λ y within. within) (λ y within. within) f g run_f.events run_g.events good_f good_g good_f.apart good_g.apart (agree-alike M S f g agree) run_f.leads run_g.leads
+          x inside (can_f.behind x inside) (can_g.behind x inside)
+          ∙ sym (ap (λ h. until M t h x) run_g.is)
+          ∙ sym (view-inside M L S t (happened M S t g) x inside);
       at = λ x inside. (prepares M L S t f good_f).now x inside ∙ sym ((prepares M L S t g good_g).now x inside);
     }
 

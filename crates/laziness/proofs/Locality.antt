@@ -1,8 +1,8 @@
 -- What happens to a set of cells depends on that set alone, if each event has all or nothing of its footprint in it.
-use Rattle.std.proofs.Common.{◌≡◌, ℕ, zero, suc, ◌+◌, ◌-◌, ◌<◌, ◌≤◌, ◌⊎◌, inl, inr, Bool, true, false, List, [], ◌∷◌, Option, None, Some, cond, arith, refl, ap, ◌∙◌, sym, subst}
+use Rattle.std.proofs.Common.{◌≡◌, ℕ, ◌-◌, ◌≤◌, inl, inr, Bool, true, false, List, [], ◌∷◌, arith, refl, ap, ◌∙◌, sym, subst}
 use Rattle.laziness.specs.Model.{Model}
-use Rattle.laziness.specs.Laws.{ModelLaws, Stands, ComesFrom, NoneDue, IsNext}
-use Rattle.laziness.specs.Stamps.{Stamps, bring_to, event_acts, happened, IsTimely}
+use Rattle.laziness.specs.Laws.{ModelLaws, Stands, NoneDue, IsNext}
+use Rattle.laziness.specs.Stamps.{Stamps, event_acts, happened, IsTimely}
 use Rattle.laziness.proofs.Runs.{acting, Leading, Finds, Run, runs}
 use Rattle.laziness.proofs.Bringing.{test, never, early, until, AlikeAt, Alike, Acts, acts-fine, acts-outside, acts-falls, acts-alike, arises, alike-stands, alike-back, at-inside, at-outside}
 
@@ -32,19 +32,19 @@ keeps-apart M L S t f e a due apart d stands due_d x y has_x has_y inside =
     elim (arises M L f e d a stands) [
       | inl before ↦ apart d before due_d x y has_x has_y inside
       | inr new ↦ elim new.1 [
-          | inl within ↦ apart e a.stands due x y (within x has_x) (within y has_y) inside
-          | inr other ↦
-              let third = other.0 in
-              let due_third : M.second_of third ≤ t = let sooner = other.2 in omega arith in
-              let z = other.3.0 in
-              let of_e : (w : M.Id) → M.footprint e w ≡ true → S w ≡ true → S z ≡ true = λ w has. apart e a.stands due w z has other.3.1 in
-              let of_third : (w : M.Id) → M.footprint third w ≡ true → S w ≡ true → S z ≡ true = λ w has. apart third other.1 due_third w z has other.3.2 in
-              let shared : S z ≡ true = elim (other.4 x has_x) [ inl has ↦ of_e x has inside | inr has ↦ of_third x has inside ] in
-              elim (other.4 y has_y) [
-                | inl has ↦ apart e a.stands due z y other.3.1 has shared
-                | inr has ↦ apart third other.1 due_third z y other.3.2 has shared
-              ]
-        ]
+        | inl within ↦ apart e a.stands due x y (within x has_x) (within y has_y) inside
+        | inr other ↦
+            let third = other.0 in
+            let due_third : M.second_of third ≤ t = let sooner = other.2 in omega arith in
+            let z = other.3.0 in
+            let of_e : (w : M.Id) → M.footprint e w ≡ true → S w ≡ true → S z ≡ true = λ w has. apart e a.stands due w z has other.3.1 in
+            let of_third : (w : M.Id) → M.footprint third w ≡ true → S w ≡ true → S z ≡ true = λ w has. apart third other.1 due_third w z has other.3.2 in
+            let shared : S z ≡ true = elim (other.4 x has_x) [ inl has ↦ of_e x has inside | inr has ↦ of_third x has inside ] in
+            elim (other.4 y has_y) [
+              | inl has ↦ apart e a.stands due z y other.3.1 has shared
+              | inr has ↦ apart third other.1 due_third z y other.3.2 has shared
+            ]
+      ]
     ]
 
 -- the next event of a set is no later than any event that shares a cell with it
@@ -78,12 +78,12 @@ keeps-timely M L S t f e good next d stands x has =
           let early : f.at x ≤ M.second_of d = elim (arises M L f e d a stands) [
             | inl before ↦ good.timely d before x has
             | inr new ↦ elim new.1 [
-                | inl within ↦ never (M.footprint e x) (within x has) outside
-                | inr other ↦ elim (other.4 x has) [
-                    | inl within ↦ never (M.footprint e x) within outside
-                    | inr third ↦ let first : f.at x ≤ M.second_of other.0 = good.timely other.0 other.1 x third in let sooner : M.second_of other.0 ≤ M.second_of d = other.2 in omega (arith, first, sooner)
-                  ]
+              | inl within ↦ never (M.footprint e x) (within x has) outside
+              | inr other ↦ elim (other.4 x has) [
+                | inl within ↦ never (M.footprint e x) within outside
+                | inr third ↦ let first : f.at x ≤ M.second_of other.0 = good.timely other.0 other.1 x third in let sooner : M.second_of other.0 ≤ M.second_of d = other.2 in omega (arith, first, sooner)
               ]
+            ]
           ] in
           omega (arith, same, early)
     ]
@@ -146,7 +146,7 @@ thinned M L R S t wider (e ∷ es) f g good_f apart good_g alike leads =
           (e ∷ rest.0, (next_g, rest.1), rest.2)
       | inr outside ↦
           let alike_next : Alike M S (event_acts M e f) g = λ x within.
-            alike-outside M L f g e x a (apart-outside M L S t f e apart leads.0.stands leads.0.due outside x within) (alike x within) in
+          alike-outside M L f g e x a (apart-outside M L S t f e apart leads.0.stands leads.0.due outside x within) (alike x within) in
           thinned M L R S t wider es (event_acts M e f) g good apart_next good_g alike_next leads.1
     ]
 
@@ -157,7 +157,7 @@ one_run M L S t [] (d ∷ ds) f good leads leads' = absurd (leads d leads'.0.sta
 one_run M L S t (e ∷ es) [] f good leads leads' = absurd (leads' e leads.0.stands leads.0.inside leads.0.due)
 one_run M L S t (e ∷ es) (d ∷ ds) f good leads leads' =
     let same : e ≡ d = L.one f.universe e d good.fine leads.0.stands leads'.0.stands
-      (leads'.0.first e leads.0.stands leads.0.inside leads.0.due) (leads.0.first d leads'.0.stands leads'.0.inside leads'.0.due) in
+    (leads'.0.first e leads.0.stands leads.0.inside leads.0.due) (leads.0.first d leads'.0.stands leads'.0.inside leads'.0.due) in
     let rest : es ≡ ds = one_run M L S t es ds (event_acts M e f) (good-next M L S t f e good leads.0) leads.1 (subst (λ c. Leads M S t (event_acts M c f) ds) (sym same) leads'.1) in
     λ i. same i ∷ rest i
 
@@ -212,4 +212,4 @@ pub ends : (M : Model) → ModelLaws M → (S : M.Id → Bool) (t : ℕ) (f : St
 unfolding happened
 ends M L S t f fine =
     runs (λ (g : Stamps M). M.next S t g.universe) (event_acts M) (λ g. M.measure g.universe) (λ g. M.Fine g.universe) (λ g e. IsNext M S t g.universe e) (λ g. NoneDue M S t g.universe)
-      (finds M L S t) (M.measure f.universe) f fine (omega arith)
+    (finds M L S t) (M.measure f.universe) f fine (omega arith)

@@ -1,9 +1,8 @@
 -- The model of two cells meets the laws.
-use Rattle.std.proofs.Common.{◌≡◌, ℕ, zero, suc, ◌+◌, ◌-◌, ◌<◌, ◌≤◌, ◌⊎◌, inl, inr, Bool, true, false, not, ◌&&◌, nat_le, cond, List, [], ◌∷◌, Option, None, Some, Contains, arith, refl, ap, ◌∙◌, sym, subst}
+use Rattle.std.proofs.Common.{◌≡◌, ℕ, ◌+◌, ◌<◌, ◌≤◌, ◌⊎◌, inl, inr, Bool, true, false, ◌&&◌, nat_le, cond, [], ◌∷◌, Option, None, Some, Contains, arith, refl, ap, ◌∙◌, sym, subst}
 use Rattle.std.proofs.lemmas.Bool.Decides.{nat_tests}
-use Rattle.laziness.specs.Model.{Model}
-use Rattle.laziness.specs.Laws.{ModelLaws, Stands, Agree, Covers, IsNext, NoneDue, IsReady}
-use Rattle.laziness.specs.Parcels.{Parcel, Parcels, Seen, Call, look, send, seen_of, is_due, due_parcel, on_way, may_send, after_send, called, answered, called_for, parcels}
+use Rattle.laziness.specs.Laws.{ModelLaws, Agree, Covers, IsNext}
+use Rattle.laziness.specs.Parcels.{Parcel, TwoCells, Seen, Call, look, send, seen_of, is_due, due_parcel, on_way, may_send, after_send, called, answered, called_for, parcel_model}
 use Rattle.laziness.proofs.Bringing.{never}
 
 le-is : (m n : ℕ) → m ≤ n → nat_le m n ≡ true
@@ -34,7 +33,7 @@ nothing_at : (S : Bool → Bool) (t : ℕ) (d : Parcel) → due_parcel S t (Some
 nothing_at S t d is inside due =
     gone d (sym is ∙ (λ i. cond (inside i && le-is d.arrives t due i) (Some d) None))
 
-parcel_next : (S : Bool → Bool) (t : ℕ) (u : Parcels) (e : Parcel) → due_parcel S t u.parcel ≡ Some e → IsNext parcels S t u e
+parcel_next : (S : Bool → Bool) (t : ℕ) (u : TwoCells) (e : Parcel) → due_parcel S t u.parcel ≡ Some e → IsNext parcel_model S t u e
 parcel_next S t u e is =
     let parts = found S t u.parcel e is in
     record {
@@ -42,8 +41,8 @@ parcel_next S t u e is =
       inside = parts.1;
       due = is-le e.arrives t parts.2;
       first = λ d stands home due before. let same : d ≡ e = one-parcel d e u.parcel stands parts.0 in
-        let arrives : d.arrives ≡ e.arrives = ap (λ p. p.arrives) same in
-        omega (arith, before, arrives);
+          let arrives : d.arrives ≡ e.arrives = ap (λ p. p.arrives) same in
+          omega (arith, before, arrives);
     }
 
 listed : (y : Bool) → Contains (false ∷ true ∷ []) y
@@ -54,16 +53,16 @@ looked_for : (x : Bool) → called_for (look x) x ≡ true
 looked_for false = refl
 looked_for true = refl
 
-replies : (S : Bool → Bool) (u v : Parcels) (a : Call) (t : ℕ) → Covers parcels (seen_of u) a S → Agree parcels S u v → answered a t u ≡ answered a t v
+replies : (S : Bool → Bool) (u v : TwoCells) (a : Call) (t : ℕ) → Covers parcel_model (seen_of u) a S → Agree parcel_model S u v → answered a t u ≡ answered a t v
 replies S u v (look x) t covers agree = ap (λ seen. seen.stock) (agree x (covers x (looked_for x)))
 replies S u v (send amount) t covers agree = ap (λ seen. cond (may_send amount seen) 1 0) (agree false (covers false refl))
 
-changes : (S : Bool → Bool) (u v : Parcels) (a : Call) (t : ℕ) → Covers parcels (seen_of u) a S → Agree parcels S u v → Agree parcels S (called a t u) (called a t v)
+changes : (S : Bool → Bool) (u v : TwoCells) (a : Call) (t : ℕ) → Covers parcel_model (seen_of u) a S → Agree parcel_model S u v → Agree parcel_model S (called a t u) (called a t v)
 changes S u v (look x) t covers agree y inside = agree y inside
 changes S u v (send amount) t covers agree y inside =
     λ i. after_send (may_send amount (agree false (covers false refl) i)) amount t y (agree y inside i)
 
-untouched : (S : Bool → Bool) (u : Parcels) (a : Call) (t : ℕ) (x : Bool) → Covers parcels (seen_of u) a S → S x ≡ false → seen_of (called a t u) x ≡ seen_of u x
+untouched : (S : Bool → Bool) (u : TwoCells) (a : Call) (t : ℕ) (x : Bool) → Covers parcel_model (seen_of u) a S → S x ≡ false → seen_of (called a t u) x ≡ seen_of u x
 untouched S u (look y) t x covers outside = refl
 untouched S u (send amount) t x covers outside = never (S x) (covers x refl) outside
 
@@ -75,15 +74,15 @@ ordered_at true t amount p d is =
     inr (omega (arith, arrives))
 ordered_at false t amount p d is = inl is
 
-ordered : (u : Parcels) (a : Call) (t : ℕ) (d : Parcel) → (called a t u).parcel ≡ Some d → (u.parcel ≡ Some d) ⊎ (t < d.arrives)
+ordered : (u : TwoCells) (a : Call) (t : ℕ) (d : Parcel) → (called a t u).parcel ≡ Some d → (u.parcel ≡ Some d) ⊎ (t < d.arrives)
 ordered u (look x) t d is = inl is
 ordered u (send amount) t d is = ordered_at (may_send amount (seen_of u false)) t amount u.parcel d is
 
-counted : (t : ℕ) (u v : Parcels) (a : Call) → u.count ≡ v.count → (called a t u).count ≡ (called a t v).count
+counted : (t : ℕ) (u v : TwoCells) (a : Call) → u.count ≡ v.count → (called a t u).count ≡ (called a t v).count
 counted t u v (look x) same = ap (λ n. n + 1) same
 counted t u v (send amount) same = ap (λ n. n + 1) same
 
-pub parcel_laws : ModelLaws parcels
+pub parcel_laws : ModelLaws parcel_model
 parcel_laws = record {
   gains_none = λ v. let none : v.stock + 0 ≡ v.stock = omega arith in λ i. record { stock = none i; parcel = v.parcel };
   gains_more = λ m n v. let sum : v.stock + m + n ≡ v.stock + (m + n) = omega arith in λ i. record { stock = sum i; parcel = v.parcel };
@@ -100,7 +99,7 @@ parcel_laws = record {
   one = λ u e d fine stands stands' before before'. one-parcel e d u.parcel stands stands';
   home = λ e. refl;
   depends = λ u v e fine fine' stands stands' agree x has.
-    ap (λ (seen : Seen). record { stock = cond x (seen.stock + e.amount) seen.stock; parcel = None }) (agree x refl);
+      ap (λ (seen : Seen). record { stock = cond x (seen.stock + e.amount) seen.stock; parcel = None }) (agree x refl);
   outside = λ u e x fine stands outside. never true refl outside;
   arises = λ u e d fine stands has stands'. gone d stands';
   closure = λ S t u fine closed e stands due x y has_x has_y inside. closed x inside y (ap (is_due t) stands ∙ le-is e.arrives t due);

@@ -1,11 +1,11 @@
 -- What a set of cells is that was brought to a second through its events.
-use Rattle.std.proofs.Common.{◌≡◌, ℕ, ◌+◌, ◌-◌, ◌<◌, ◌≤◌, ◌⊎◌, inl, inr, Bool, true, false, List, [], ◌∷◌, ◌++◌, cond, arith, refl, ap, ◌∙◌, sym, subst}
+use Rattle.std.proofs.Common.{◌≡◌, ℕ, ◌-◌, ◌≤◌, inl, inr, Bool, true, false, List, [], ◌∷◌, ◌++◌, cond, arith, refl, ◌∙◌, sym, subst}
 use Rattle.laziness.specs.Model.{Model}
 use Rattle.laziness.specs.Laws.{ModelLaws, Stands, NoneDue, IsNext, IsClosed, Covers, IsReady}
 use Rattle.laziness.specs.Second.{everything}
-use Rattle.laziness.specs.Stamps.{Stamps, bring_to, event_acts, happened, brought, IsTimely}
-use Rattle.laziness.proofs.Bringing.{test, never, early, until, Acts, stands-advanced, stands-before, view-inside, view-outside, at-inside, at-outside, acts-outside, acts-count}
-use Rattle.laziness.proofs.Locality.{IsApart, after, Leads, Good, next-acts, good-next, good-run, Ends, ends}
+use Rattle.laziness.specs.Stamps.{Stamps, bring_to, event_acts, brought, IsTimely}
+use Rattle.laziness.proofs.Bringing.{test, never, early, stands-advanced, stands-before, view-outside, at-inside, at-outside, acts-outside, acts-count}
+use Rattle.laziness.proofs.Locality.{IsApart, after, Leads, Good, next-acts, good-next, good-run, ends}
 
 -- what lies in a closed set lies there after a closed set's events
 pub closed-apart : (M : Model) → ModelLaws M → (S : M.Id → Bool) (t : ℕ) (f : Stamps M) → M.Fine f.universe → IsClosed M (M.view f.universe) t S → IsApart M S t f
@@ -31,8 +31,8 @@ leads-more M L S s t later (e ∷ es) ds f leads more =
       inside = leads.0.inside;
       due = omega (arith, due, later);
       first = λ d stands home due_d before.
-        let sooner : M.second_of d ≤ M.second_of e = L.first_sooner d e before in
-        leads.0.first d stands home (omega (arith, sooner, due)) before;
+          let sooner : M.second_of d ≤ M.second_of e = L.first_sooner d e before in
+          leads.0.first d stands home (omega (arith, sooner, due)) before;
     } in
     (next, leads-more M L S s t later es ds (event_acts M e f) leads.1 more)
 
@@ -77,9 +77,9 @@ event-closed M L S t e f good next closed x inside y brings =
     let gained : IsClosed M (M.view (M.advance k f.universe)) t S = bring-closed M L S t k f.universe closed in
     elim (test (M.footprint e x)) [
       | inl has ↦ elim (L.widens (M.advance k f.universe) e t x y fine stands has brings) [
-          | inl before ↦ gained x inside y before
-          | inr shared ↦ lies-inside M L S t f e good.apart next y shared
-        ]
+        | inl before ↦ gained x inside y before
+        | inr shared ↦ lies-inside M L S t f e good.apart next y shared
+      ]
       | inr other ↦ gained x inside y (subst (λ v. M.brings v t y ≡ true) (L.outside (M.advance k f.universe) e x fine stands other) brings)
     ]
 
@@ -175,8 +175,8 @@ ready M L S t a f good closed covers =
     record {
       fine = p.good.fine;
       closed = subst (λ (g : Stamps M). IsClosed M (M.view (bring_to M S t g).universe) t S) (sym run.is)
-        (bring-closed M L S t k (after M run.events f).universe (run-closed M L S t run.events f good run.leads closed));
+          (bring-closed M L S t k (after M run.events f).universe (run-closed M L S t run.events f good run.leads closed));
       covers = subst (λ (g : Stamps M). Covers M (M.view (bring_to M S t g).universe) a S) (sym run.is)
-        (bring-covers M L S a k (after M run.events f).universe (run-covers M L S t a run.events f good run.leads covers));
+          (bring-covers M L S a k (after M run.events f).universe (run-covers M L S t a run.events f good run.leads covers));
       none = p.none;
     }

@@ -49,5 +49,5 @@ runs next act measure Fine IsNext Over F zero s fine enough =
     record { events = []; leads = over_at next act measure Fine IsNext Over F s (next s) fine refl enough; is = refl }
 runs next act measure Fine IsNext Over F (suc fuel) s fine enough =
     run_at next act measure Fine IsNext Over F fuel s (next s) fine refl (λ e first.
-      let falls : measure (act e s) < measure s = F.falls s e fine first in
-      runs next act measure Fine IsNext Over F fuel (act e s) (F.keeps s e fine first) (omega (arith, falls, enough)))
+    let falls : measure (act e s) < measure s = F.falls s e fine first in
+    runs next act measure Fine IsNext Over F fuel (act e s) (F.keeps s e fine first) (omega (arith, falls, enough)))

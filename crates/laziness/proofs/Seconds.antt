@@ -1,11 +1,11 @@
 -- A second of the ticking universe shows what the events of a universe with stamps show, all cells of which stand at the same second.
-use Rattle.std.proofs.Common.{◌≡◌, ℕ, ◌+◌, ◌-◌, ◌<◌, ◌≤◌, inl, inr, Bool, true, false, List, [], ◌∷◌, cond, arith, refl, ap, ◌∙◌, sym, subst}
+use Rattle.std.proofs.Common.{◌≡◌, ℕ, ◌+◌, ◌-◌, ◌≤◌, inl, inr, List, [], ◌∷◌, cond, arith, refl, ap, ◌∙◌, sym, subst}
 use Rattle.laziness.specs.Model.{Model}
 use Rattle.laziness.specs.Laws.{ModelLaws, Stands, NoneDue, IsNext, Agree}
 use Rattle.laziness.specs.Second.{everything, second}
 use Rattle.laziness.specs.Stamps.{Stamps, event_acts, happened, IsTimely}
 use Rattle.laziness.proofs.Runs.{acting, Leading, Finds, Run, runs}
-use Rattle.laziness.proofs.Bringing.{test, early, gains-now, stands-advanced, stands-before, view-inside, acts-outside, at-inside, at-outside}
+use Rattle.laziness.proofs.Bringing.{test, early, stands-advanced, stands-before, view-inside, acts-outside, at-inside, at-outside}
 use Rattle.laziness.proofs.Locality.{after, Leads, Good, next-acts, good-next, ends}
 use Rattle.laziness.proofs.Preparing.{good-all}
 
@@ -66,8 +66,8 @@ shows-event M L t f u e fine good shows next next_f =
     let due : M.second_of e ≤ t = next.due in
     let is : M.second_of e ≡ t = omega (arith, early, now, due) in
     let agree : Agree M (M.footprint e) (M.advance k f.universe) u = λ y has.
-      let none : M.second_of e - f.at y ≡ 0 = let there : f.at y ≡ t = shows.at y in omega (arith, is, there) in
-      view-inside M L (M.footprint e) (M.second_of e) f y has ∙ ap (λ n. M.gains n (M.view f.universe y)) none ∙ L.gains_none (M.view f.universe y) ∙ shows.view y in
+    let none : M.second_of e - f.at y ≡ 0 = let there : f.at y ≡ t = shows.at y in omega (arith, is, there) in
+    view-inside M L (M.footprint e) (M.second_of e) f y has ∙ ap (λ n. M.gains n (M.view f.universe y)) none ∙ L.gains_none (M.view f.universe y) ∙ shows.view y in
     record {
       view = λ x. elim (test (M.footprint e x)) [
         | inl has ↦ L.depends (M.advance k f.universe) u e (L.advance_fine k f.universe good.fine) fine (stands-advanced M L k f.universe e a.stands) next.stands agree x has
@@ -89,12 +89,12 @@ shows-run M L t (e ∷ es) (d ∷ ds) f u fine good shows leads leads' =
     let stands_d : Stands M u d = shows-stands M t f u d shows leads'.0.stands in
     let stands_e : Stands M f.universe e = shown-stands M t f u e shows leads.0.stands in
     let same : d ≡ e = L.one u d e fine stands_d leads.0.stands
-      (leads.0.first d stands_d refl leads'.0.due) (leads'.0.first e stands_e refl leads.0.due) in
+    (leads.0.first d stands_d refl leads'.0.due) (leads'.0.first e stands_e refl leads.0.due) in
     let first : IsNext M (everything M) t f.universe e = subst (λ c. IsNext M (everything M) t f.universe c) same leads'.0 in
     let rest : Leads M (everything M) t (event_acts M e f) ds = subst (λ c. Leads M (everything M) t (event_acts M c f) ds) same leads'.1 in
     subst (λ c. Shows M t (after M ds (event_acts M c f)) (acting M.effect es (M.effect e u))) (sym same)
-      (shows-run M L t es ds (event_acts M e f) (M.effect e u) (L.effect_fine u e fine leads.0.stands) (good-next M L (everything M) t f e good first)
-        (shows-event M L t f u e fine good shows leads.0 first) leads.1 rest)
+    (shows-run M L t es ds (event_acts M e f) (M.effect e u) (L.effect_fine u e fine leads.0.stands) (good-next M L (everything M) t f e good first)
+    (shows-event M L t f u e fine good shows leads.0 first) leads.1 rest)
 
 -- what a second makes of a universe
 pub record Ticks (M : Model) (t : ℕ) (u v : M.Universe) : Type 0 where
@@ -121,7 +121,7 @@ ticks M L s t u next fine none =
       count = ap M.count run.is ∙ run-in-count M L run.events (gained M u) ∙ L.advance_count (λ x. 1) u;
       good = good;
       shows = subst (λ v. Shows M t (happened M (everything M) t (stand M t (gained M u))) v) (sym run.is)
-        (subst (λ g. Shows M t g (acting M.effect run.events (gained M u))) (sym stamped.is)
+          (subst (λ g. Shows M t g (acting M.effect run.events (gained M u))) (sym stamped.is)
           (shows-run M L t run.events stamped.events (stand M t (gained M u)) (gained M u) fine_gained good start run.leads stamped.leads));
     }
 

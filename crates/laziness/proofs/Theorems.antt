@@ -1,25 +1,37 @@
 -- The theorems, from the laws.
-use Rattle.std.proofs.Common.{◌≡◌, ℕ, ◌+◌, ◌-◌, ◌<◌, ◌≤◌, inl, inr, Bool, true, false, not, List, [], ◌∷◌, ◌++◌, arith, refl, ap, ◌∙◌, sym, subst}
+use Rattle.std.proofs.Common.{◌≡◌, ℕ, ◌≤◌, Bool, true, false, not, List, [], ◌∷◌, ◌++◌, arith, refl, ap, ◌∙◌, sym, subst}
 use Rattle.laziness.specs.Model.{Model}
 use Rattle.laziness.specs.Laws.{ModelLaws, IsClosed, Covers, Agree}
+use Rattle.laziness.specs.Closing.{closing}
 use Rattle.laziness.specs.Second.{everything}
 use Rattle.laziness.specs.World.{Base, IsBase, InOrder, last_moment, world}
 use Rattle.laziness.specs.Stamps.{Stamps, happened, brought, AgreeStamped}
 use Rattle.laziness.specs.Lazy.{touched, prepared, lazily, lazily_all, stamped, lazy}
 use Rattle.laziness.specs.Touch.{last_touch}
-use Rattle.laziness.specs.Theorems.{ClosuresAreLeast, SecondsEnd, AgreeUntil, TicksLocally, LazyEqualsTicking, EntriesTouchTheirClosure, CanBring, CellsDecide}
-use Rattle.laziness.proofs.Bringing.{test, never, until, view-inside, alike-same}
+use Rattle.laziness.specs.Theorems.{ClosuresAreLeast, SecondsEnd, AgreeUntil, TicksLocally, LazyEqualsTicking, EntriesTouchTheirClosure, CellsDecide}
+use Rattle.laziness.proofs.Bringing.{view-inside, alike-same}
 use Rattle.laziness.proofs.Preparing.{closed-apart, IsPrepared, prepares}
 use Rattle.laziness.proofs.Seconds.{second-ends, second-fine}
 use Rattle.laziness.proofs.Following.{Follows, happened-none}
 use Rattle.laziness.proofs.Asking.{same-until, Meets, meets, not-true}
 use Rattle.laziness.proofs.Closures.{closing-least}
 use Rattle.laziness.proofs.Worlds.{order-front, order-rest}
-use Rattle.laziness.proofs.Histories.{Keeps, keeps, keeps-base, follows-later, lazy-stands, lazy-replies}
+use Rattle.laziness.proofs.Histories.{keeps, keeps-base, follows-later, lazy-stands, lazy-replies}
 use Rattle.laziness.proofs.Holding.{first-acts, one-first, same-first, same-event, same-brought, same-request, same-reply}
 
+-- tests that pass alike are equal
+both-ways : (b c : Bool) → (b ≡ true → c ≡ true) → (c ≡ true → b ≡ true) → b ≡ c
+both-ways true c to from = sym (to refl)
+both-ways false true to from = from refl
+both-ways false false to from = refl
+
 pub closures-least : (M : Model) → ModelLaws M → ClosuresAreLeast M
-closures-least M L u t a fine = closing-least M L u t a fine
+closures-least M L = record {
+  least = closing-least M L;
+  only = λ u t a S fine is x.
+      let own = closing-least M L u t a fine in
+      both-ways (S x) (closing M (M.view u) t a x) (is.least (closing M (M.view u) t a) own.closed own.covers x) (own.least S is.closed is.covers x);
+}
 
 pub seconds-end : (M : Model) → ModelLaws M → SecondsEnd M
 seconds-end M L = record { none = second-ends M L; fine = second-fine M L }
@@ -36,7 +48,7 @@ ticks-views M L S t base other alike x inside =
     let closed : IsClosed M (M.view other.universe) t S = λ y within z brings. alike.closed y within z (subst (λ v. M.brings v t z ≡ true) (sym (alike.agree y within)) brings) in
     sym (one.is x)
     ∙ same-until M L S t (stamped M base) (stamped M other) one.fine two.fine one.timely two.timely (closed-apart M L S t (stamped M base) one.fine alike.closed) (closed-apart M L S t (stamped M other) two.fine closed)
-        (λ y within. alike-same M (stamped M base) (stamped M other) y (alike.agree y within) alike.moment) x inside alike.later later
+    (λ y within. alike-same M (stamped M base) (stamped M other) y (alike.agree y within) alike.moment) x inside alike.later later
     ∙ two.is x
 
 -- what a request needs is there in both
@@ -62,11 +74,11 @@ pub ticks-locally : (M : Model) → ModelLaws M → TicksLocally M
 ticks-locally M L = record {
   views = ticks-views M L;
   replies = λ S t base other a alike covers count.
-    let both = both-meet M L S t base other a alike covers count in
-    L.reply_depends S t (world M base [] t) (world M other [] t) a both.first.ticking both.second.ticking both.count (ticks-views M L S t base other alike);
+      let both = both-meet M L S t base other a alike covers count in
+      L.reply_depends S t (world M base [] t) (world M other [] t) a both.first.ticking both.second.ticking both.count (ticks-views M L S t base other alike);
   changes = λ S t base other a alike covers count.
-    let both = both-meet M L S t base other a alike covers count in
-    L.act_depends S t (world M base [] t) (world M other [] t) a both.first.ticking both.second.ticking both.count (ticks-views M L S t base other alike);
+      let both = both-meet M L S t base other a alike covers count in
+      L.act_depends S t (world M base [] t) (world M other [] t) a both.first.ticking both.second.ticking both.count (ticks-views M L S t base other alike);
 }
 
 catches-up : (M : Model) → ModelLaws M → (base : Base M) (history : List M.Entry) (t : ℕ) → IsBase M base → InOrder M base.moment history → last_moment M base.moment history ≤ t
@@ -104,22 +116,22 @@ pub entries-touch : (M : Model) → ModelLaws M → EntriesTouchTheirClosure M
 entries-touch M L = record {
   steps = λ base history e. lazily-more M history e (stamped M base);
   stamped = λ base history e is order x inside.
-    ap (λ (g : Stamps M). g.at x) (lazily-more M history e (stamped M base)) ∙ (entry-meets M L base history e is order).prep.now x inside;
+      ap (λ (g : Stamps M). g.at x) (lazily-more M history e (stamped M base)) ∙ (entry-meets M L base history e is order).prep.now x inside;
   untouched = λ base history e is order.
-    let both = entry-meets M L base history e is order in
-    let f = lazy M base history in
-    let S = touched M f e in
-    subst (λ g. AgreeStamped M (λ x. not (S x)) g f) (sym (lazily-more M history e (stamped M base))) (record {
-      view = λ x outside. L.act_outside S (M.moment_of e) (prepared M e f).universe (M.ask_of e) x both.meet.lazy (not-true (S x) outside) ∙ both.prep.view x (not-true (S x) outside);
-      at = λ x outside. both.prep.at x (not-true (S x) outside);
-    });
+      let both = entry-meets M L base history e is order in
+      let f = lazy M base history in
+      let S = touched M f e in
+      subst (λ g. AgreeStamped M (λ x. not (S x)) g f) (sym (lazily-more M history e (stamped M base))) (record {
+        view = λ x outside. L.act_outside S (M.moment_of e) (prepared M e f).universe (M.ask_of e) x both.meet.lazy (not-true (S x) outside) ∙ both.prep.view x (not-true (S x) outside);
+        at = λ x outside. both.prep.at x (not-true (S x) outside);
+      });
 }
 
 pub cells-decide : (M : Model) → ModelLaws M → CellsDecide M
 cells-decide M L = record {
   can_bring = λ base history S t is order later closed.
-    let follows = follows-later M L base history (last_touch M base history) (lazy M base history) t (keeps M L base history is order) later in
-    record { fine = follows.fine; timely = follows.timely; closed = closed; behind = λ x inside. follows.behind x };
+      let follows = follows-later M L base history (last_touch M base history) (lazy M base history) t (keeps M L base history is order) later in
+      record { fine = follows.fine; timely = follows.timely; closed = closed; behind = λ x inside. follows.behind x };
   none = happened-none M L;
   first = first-acts M L;
   one = one-first M L;

@@ -13,10 +13,10 @@ abbrev pub ComesFrom : (M : Model) → M.Universe → M.Event → M.Event → Ty
 ComesFrom M u e new =
     ((x : M.Id) → M.footprint new x ≡ true → M.footprint e x ≡ true)
     ⊎ ((third : M.Event)
-        × Stands M u third
-        × (M.second_of third ≤ M.second_of new)
-        × ((z : M.Id) × (M.footprint e z ≡ true) × (M.footprint third z ≡ true))
-        × ((x : M.Id) → M.footprint new x ≡ true → (M.footprint e x ≡ true) ⊎ (M.footprint third x ≡ true)))
+    × Stands M u third
+    × (M.second_of third ≤ M.second_of new)
+    × ((z : M.Id) × (M.footprint e z ≡ true) × (M.footprint third z ≡ true))
+    × ((x : M.Id) → M.footprint new x ≡ true → (M.footprint e x ≡ true) ⊎ (M.footprint third x ≡ true)))
 
 -- a set of cells is closed at a second: it has every cell that one of its cells brings
 abbrev pub IsClosed : (M : Model) → (M.Id → M.View) → ℕ → (M.Id → Bool) → Type 0
@@ -69,7 +69,6 @@ pub record ModelLaws (M : Model) : Type 0 where
   pub advance_measure : (k : M.Id → ℕ) (u : M.Universe) → M.measure (M.advance k u) ≡ M.measure u
   -- a request asks for no more after gains
   pub advance_asks : (k : M.Id → ℕ) (u : M.Universe) (a : M.Ask) (y : M.Id) → M.asks a (M.view (M.advance k u)) y ≡ true → M.asks a (M.view u) y ≡ true
-
   -- an event acts before those of later seconds
   pub sooner_first : (e d : M.Event) → M.second_of e < M.second_of d → M.Before e d
   -- and before none of an earlier second
@@ -78,7 +77,6 @@ pub record ModelLaws (M : Model) : Type 0 where
   pub one : (u : M.Universe) (e d : M.Event) → M.Fine u → Stands M u e → Stands M u d → (M.Before e d → ⊥) → (M.Before d e → ⊥) → e ≡ d
   -- an event's home is in its footprint
   pub home : (e : M.Event) → M.footprint e (M.home e) ≡ true
-
   -- what an event makes of its footprint depends on its footprint alone
   pub depends : (u v : M.Universe) (e : M.Event) → M.Fine u → M.Fine v → Stands M u e → Stands M v e → Agree M (M.footprint e) u v
       → Agree M (M.footprint e) (M.effect e u) (M.effect e v)
@@ -102,17 +100,14 @@ pub record ModelLaws (M : Model) : Type 0 where
   pub effect_fine : (u : M.Universe) (e : M.Event) → M.Fine u → Stands M u e → M.Fine (M.effect e u)
   -- the measure falls with each event
   pub falls : (u : M.Universe) (e : M.Event) → M.Fine u → Stands M u e → M.measure (M.effect e u) < M.measure u
-
   -- what is found next is next
   pub next_found : (S : M.Id → Bool) (t : ℕ) (u : M.Universe) (e : M.Event) → M.Fine u → M.next S t u ≡ Some e → IsNext M S t u e
   -- and nothing is found only where nothing is due
   pub none_found : (S : M.Id → Bool) (t : ℕ) (u : M.Universe) → M.Fine u → M.next S t u ≡ None → NoneDue M S t u
-
   -- what a request asks for is in the directory
   pub asked_listed : (u : M.Universe) (a : M.Ask) (y : M.Id) → M.Fine u → M.asks a (M.view u) y ≡ true → Contains M.ids y
   -- and so is what a cell brings
   pub brought_listed : (u : M.Universe) (x : M.Id) (t : ℕ) (y : M.Id) → M.Fine u → M.brings (M.view u x) t y ≡ true → Contains M.ids y
-
   -- what a request asks for is seen in the cells that it asks for
   pub asks_within : (S : M.Id → Bool) (a : M.Ask) (v w : M.Id → M.View) → ((x : M.Id) → S x ≡ true → v x ≡ w x) → Covers M v a S → Covers M w a S
   -- a reply depends on a ready set alone, and on how many requests there were

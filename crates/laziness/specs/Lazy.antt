@@ -1,5 +1,5 @@
 -- The universe that answers without ticking: only the closure of a request is brought to its second.
-use Rattle.std.specs.Prelude.{ℕ, Bool, List, [], ◌∷◌}
+use Rattle.std.specs.Prelude.{Bool, List, [], ◌∷◌}
 use Rattle.laziness.specs.Model.{Model}
 use Rattle.laziness.specs.Closing.{closing}
 use Rattle.laziness.specs.World.{Base}

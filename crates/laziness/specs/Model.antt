@@ -10,7 +10,6 @@ pub record Model : Type 1 where
   pub view : Universe → Id → View
   -- the directory: the names of the cells that a request can come to need
   pub ids : List Id
-
   -- What comes due: its second, and the cell that owes it, by what is seen of that cell.
   pub Event : Type 0
   pub second_of : Event → ℕ
@@ -26,11 +25,9 @@ pub record Model : Type 1 where
   pub next : (Id → Bool) → ℕ → Universe → Option Event
   -- more than how many events can still come
   pub measure : Universe → ℕ
-
   -- a cell after so many seconds, of which it owes none an event; and every cell after seconds of its own
   pub gains : ℕ → View → View
   pub advance : (Id → ℕ) → Universe → Universe
-
   -- A request, with whoever makes it; what is answered; and an entry of a history, with its moment and its request.
   pub Ask : Type 0
   pub Reply : Type 0
@@ -46,6 +43,5 @@ pub record Model : Type 1 where
   pub reply : Ask → ℕ → Universe → Reply
   -- the number of the last request
   pub count : Universe → ℕ
-
   -- the rules that every universe keeps
   pub Fine : Universe → Type 0

@@ -1,6 +1,6 @@
 -- A model of two cells: stocks that grow by one a second, and a parcel on its way from one to the other. It shows that the
 -- laws don't contradict each other.
-use Rattle.std.specs.Prelude.{◌≡◌, ℕ, ◌+◌, ◌-◌, ◌<◌, ◌≤◌, Bool, true, false, not, ◌&&◌, nat_le, List, [], ◌∷◌, Option, None, Some, if◌then◌else◌}
+use Rattle.std.specs.Prelude.{◌≡◌, ℕ, ◌+◌, ◌-◌, ◌<◌, Bool, true, false, not, ◌&&◌, nat_le, [], ◌∷◌, Option, None, Some, if◌then◌else◌}
 use Rattle.laziness.specs.Model.{Model}
 
 -- how much is in a parcel, and the second at which it arrives
@@ -9,7 +9,7 @@ pub record Parcel : Type 0 where
   pub arrives : ℕ
 
 -- the sender's cell is `false`, the receiver's is `true`
-pub record Parcels : Type 0 where
+pub record TwoCells : Type 0 where
   pub stock : Bool → ℕ
   pub parcel : Option Parcel
   pub count : ℕ
@@ -28,11 +28,11 @@ pub record Line : Type 0 where
   pub moment : ℕ
   pub call : Call
 
-abbrev pub seen_of : Parcels → Bool → Seen
+abbrev pub seen_of : TwoCells → Bool → Seen
 seen_of u x = record { stock = u.stock x; parcel = u.parcel }
 
 -- the parcel is taken from the way, and its amount is the receiver's
-abbrev pub arrived : Parcel → Parcels → Parcels
+abbrev pub arrived : Parcel → TwoCells → TwoCells
 arrived parcel u = record u { stock = λ x. if x then u.stock x + parcel.amount else u.stock x; parcel = None }
 
 abbrev pub is_due : ℕ → Option Parcel → Bool
@@ -59,13 +59,13 @@ after_send may amount t x seen = record {
   parcel = if may then Some (record { amount = amount; arrives = t + 5 }) else seen.parcel;
 }
 
-abbrev pub called : Call → ℕ → Parcels → Parcels
+abbrev pub called : Call → ℕ → TwoCells → TwoCells
 called (look x) t u = record u { count = u.count + 1 }
 called (send amount) t u =
     let cell = λ (x : Bool). after_send (may_send amount (seen_of u false)) amount t x (seen_of u x) in
     record { stock = λ x. (cell x).stock; parcel = (cell false).parcel; count = u.count + 1 }
 
-abbrev pub answered : Call → ℕ → Parcels → ℕ
+abbrev pub answered : Call → ℕ → TwoCells → ℕ
 answered (look x) t u = u.stock x
 answered (send amount) t u = if may_send amount (seen_of u false) then 1 else 0
 
@@ -74,9 +74,9 @@ abbrev pub called_for : Call → Bool → Bool
 called_for (look x) y = if x then y else (if y then false else true)
 called_for (send amount) y = true
 
-abbrev pub parcels : Model
-parcels = record {
-  Universe = Parcels;
+abbrev pub parcel_model : Model
+parcel_model = record {
+  Universe = TwoCells;
   Id = Bool;
   View = Seen;
   view = seen_of;

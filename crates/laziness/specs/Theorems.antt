@@ -9,9 +9,10 @@ use Rattle.laziness.specs.Stamps.{Stamps, event_acts, happened, brought, request
 use Rattle.laziness.specs.Lazy.{touched, lazily, lazy, lazy_reply}
 use Rattle.laziness.specs.Touch.{StandsFor}
 
--- The closure by rounds is the least closed set that has what a request asks for.
-abbrev pub ClosuresAreLeast : (M : Model) → Type 0
-ClosuresAreLeast M = (u : M.Universe) (t : ℕ) (a : M.Ask) → M.Fine u → IsLeast M (M.view u) t a (closing M (M.view u) t a)
+-- The closure by rounds is the least closed set that has what a request asks for, and the only one.
+pub record ClosuresAreLeast (M : Model) : Type 0 where
+  pub least : (u : M.Universe) (t : ℕ) (a : M.Ask) → M.Fine u → IsLeast M (M.view u) t a (closing M (M.view u) t a)
+  pub only : (u : M.Universe) (t : ℕ) (a : M.Ask) (S : M.Id → Bool) → M.Fine u → IsLeast M (M.view u) t a S → (x : M.Id) → S x ≡ closing M (M.view u) t a x
 
 -- A second ends with nothing due, and keeps the rules.
 pub record SecondsEnd (M : Model) : Type 0 where

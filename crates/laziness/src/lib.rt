@@ -1,39 +1,12 @@
-//! A try.
+//! Lazy equals ticking: for every model that meets a list of laws, a universe whose cells stand at seconds of their
+//! own, each brought up only where it is needed, answers as the universe that ticks second by second.
 #![tactic(auto)]
 
-ghost use Rattle.std.specs.Prelude.{◌≡◌, ℕ, List};
-ghost use Rattle.laziness.specs.Model.{Model};
-ghost use Rattle.laziness.specs.Laws.{ModelLaws};
-ghost use Rattle.laziness.specs.Theorems.{LazyEqualsTicking};
-ghost use Rattle.laziness.specs.Parcels.{parcels};
-use std::marker::Brand;
+mod laws;
+mod ticks;
 
-/// A ticking model for each setting.
-pub trait Ticking {
-    /// What never changes, as rules and the names of the cells.
-    ghost Setting: { Type 0 };
-
-    /// The model for a setting.
-    ghost model: { Setting → Model };
-
-    /// It meets the laws.
-    ghost laws: { (setting : Setting) → ModelLaws (model setting) };
-}
-
-impl Ticking for Brand {
-    ghost Setting = { ⊥ };
-    ghost model = { λ none. absurd none };
-    ghost laws = { λ none. absurd none };
-}
-
-/// A try.
-pub fn lazy_equals_ticking<T: Ticking>()
-    ensures { (setting : T.Setting) → LazyEqualsTicking (T.model setting) }
-{}
-
-/// A law.
-pub fn parcels_are_lazy()
-    ensures { LazyEqualsTicking parcels }
-{
-    lazy_equals_ticking::<Brand>()
-}
+pub use laws::{
+    cells_decide, closures_are_least, entries_touch_their_closure, lazy_equals_ticking,
+    parcels_tick, seconds_end, ticks_locally,
+};
+pub use ticks::Ticking;

@@ -1,4 +1,4 @@
-use Rattle.laziness.proofs.lazy_equals_ticking.Goals as goal
+use Rattle.laziness.proofs.laws.lazy_equals_ticking.Goals as goal
 use Rattle.laziness.proofs.Theorems.{lazy-equals-ticking}
 
 abbrev pub returns : goal.returns
