@@ -59,7 +59,7 @@ pub record ModelLaws (M : Model) : Type 0 where
   pub gains_make_none : (n : ℕ) (v : M.View) (e : M.Event) → M.Owes (M.gains n v) e → M.Owes v e
   -- a cell brings no more after gains
   pub gains_bring : (n t : ℕ) (v : M.View) (y : M.Id) → M.brings (M.gains n v) t y ≡ true → M.brings v t y ≡ true
-  -- each cell gains for the seconds that are said of it
+  -- every cell gains for its own seconds
   pub advanced : (k : M.Id → ℕ) (u : M.Universe) (x : M.Id) → M.view (M.advance k u) x ≡ M.gains (k x) (M.view u x)
   -- gains keep the rules
   pub advance_fine : (k : M.Id → ℕ) (u : M.Universe) → M.Fine u → M.Fine (M.advance k u)

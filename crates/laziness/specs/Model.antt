@@ -10,25 +10,25 @@ pub record Model : Type 1 where
   pub view : Universe → Id → View
   -- the directory: the names of the cells that a request can come to need
   pub ids : List Id
-  -- What comes due: its second, and the cell that owes it, by what is seen of that cell.
+  -- an event, its second, and the cell that owes it, which shows it
   pub Event : Type 0
   pub second_of : Event → ℕ
   pub home : Event → Id
   pub Owes : View → Event → Type 0
   -- the cells that an event reads and changes
   pub footprint : Event → Id → Bool
-  -- the first event acts before the second one
+  -- one event acts before another one
   pub Before : Event → Event → Type 0
   -- the universe after an event
   pub effect : Event → Universe → Universe
   -- the first of the events that are due by a second and that cells of this set owe
   pub next : (Id → Bool) → ℕ → Universe → Option Event
-  -- more than how many events can still come
+  -- at most so many events can still come
   pub measure : Universe → ℕ
-  -- a cell after so many seconds, of which it owes none an event; and every cell after seconds of its own
+  -- a cell after so many seconds in which no event comes to it; and every cell after seconds of its own
   pub gains : ℕ → View → View
   pub advance : (Id → ℕ) → Universe → Universe
-  -- A request, with whoever makes it; what is answered; and an entry of a history, with its moment and its request.
+  -- a request with its caller, a reply, and an entry of a history, with its moment and its request
   pub Ask : Type 0
   pub Reply : Type 0
   pub Entry : Type 0
@@ -38,7 +38,7 @@ pub record Model : Type 1 where
   pub asks : Ask → (Id → View) → Id → Bool
   -- the cells without which a cell can't come to a second
   pub brings : View → ℕ → Id → Bool
-  -- the universe after a request at a second, and what is answered
+  -- the universe after a request at a second, and the reply
   pub act : Ask → ℕ → Universe → Universe
   pub reply : Ask → ℕ → Universe → Reply
   -- the number of the last request
