@@ -2,7 +2,9 @@
 use Rattle.std.proofs.Common.{◌≡◌, ℕ, ◌+◌, ◌<◌, ◌≤◌, ◌⊎◌, inl, inr, Bool, true, false, ◌&&◌, nat_le, cond, [], ◌∷◌, Option, None, Some, Contains, arith, refl, ap, ◌∙◌, sym, subst}
 use Rattle.std.proofs.lemmas.Bool.Decides.{nat_tests}
 use Rattle.laziness.specs.Laws.{ModelLaws, Agree, Covers, IsNext}
-use Rattle.laziness.specs.Parcels.{Parcel, TwoCells, Seen, Call, look, send, seen_of, is_due, due_parcel, on_way, may_send, after_send, called, answered, called_for, parcel_model}
+use Rattle.laziness.specs.Parcels.{Parcel, TwoCells, Seen, Call, look, send, seen_of, is_due, due_parcel, on_way, may_send, after_send, called, answered, called_for, parcel_model, start, story, look_later}
+use Rattle.laziness.specs.Stamps.{happened}
+use Rattle.laziness.specs.Lazy.{lazy, lazy_reply}
 use Rattle.laziness.proofs.Bringing.{never}
 
 le-is : (m n : ℕ) → m ≤ n → nat_le m n ≡ true
@@ -120,3 +122,13 @@ parcel_laws = record {
   act_count = λ t u v a same. counted t u v a same;
   act_fine = λ S t u a ready. tt;
 }
+
+-- the receiver's ten, three that came, and a gain of twenty seconds
+pub parcel_reply : lazy_reply parcel_model start story look_later ≡ 33
+unfolding happened
+parcel_reply = refl
+
+-- before that the receiver was needed last when the parcel was sent
+pub parcel_stamps : ((lazy parcel_model start story).at false ≡ 3) × ((lazy parcel_model start story).at true ≡ 0)
+unfolding happened
+parcel_stamps = (refl, refl)

@@ -1,7 +1,8 @@
 -- A model of two cells: stocks that grow by one a second, and a parcel on its way from one to the other. It shows that the
 -- laws don't contradict each other.
-use Rattle.std.specs.Prelude.{◌≡◌, ℕ, ◌+◌, ◌-◌, ◌<◌, Bool, true, false, not, ◌&&◌, nat_le, [], ◌∷◌, Option, None, Some, if◌then◌else◌}
+use Rattle.std.specs.Prelude.{◌≡◌, ℕ, ◌+◌, ◌-◌, ◌<◌, Bool, true, false, not, ◌&&◌, nat_le, List, [], ◌∷◌, Option, None, Some, if◌then◌else◌}
 use Rattle.laziness.specs.Model.{Model}
+use Rattle.laziness.specs.World.{Base}
 
 -- how much is in a parcel, and the second at which it arrives
 pub record Parcel : Type 0 where
@@ -104,3 +105,15 @@ parcel_model = record {
   count = λ u. u.count;
   Fine = λ u. Unit {0};
 }
+
+-- both cells have ten at second 0
+abbrev pub start : Base parcel_model
+start = record { moment = 0; universe = record { stock = λ x. 10; parcel = None; count = 0 } }
+
+-- three are sent at once, and at second 3 somebody looks at the sender
+abbrev pub story : List Line
+story = record { moment = 0; call = send 3 } ∷ record { moment = 3; call = look false } ∷ []
+
+-- at second 20 somebody looks at the receiver, where the parcel has arrived
+abbrev pub look_later : Line
+look_later = record { moment = 20; call = look true }

@@ -1,5 +1,7 @@
 ghost use Rattle.laziness.specs.Laws.{ModelLaws};
-ghost use Rattle.laziness.specs.Parcels.{parcel_model};
+ghost use Rattle.laziness.specs.Lazy.{lazy, lazy_reply};
+ghost use Rattle.laziness.specs.Parcels.{parcel_model, start, story, look_later};
+ghost use Rattle.std.specs.Prelude.{◌≡◌, true, false};
 ghost use Rattle.laziness.specs.Theorems.{CellsDecide, ClosuresAreLeast, EntriesTouchTheirClosure, LazyEqualsTicking, SecondsEnd, TicksLocally};
 
 use crate::ticks::Ticking;
@@ -45,6 +47,10 @@ pub fn parcels_tick()
     ensures lazy { LazyEqualsTicking parcel_model }
     ensures touches { EntriesTouchTheirClosure parcel_model }
     ensures cells { CellsDecide parcel_model }
+    // The receiver has ten, gets three, and gains for twenty seconds.
+    ensures reply { lazy_reply parcel_model start story look_later ≡ 33 }
+    // Until then it stands at the second at which the parcel was sent.
+    ensures stamps { ((lazy parcel_model start story).at false ≡ 3) × ((lazy parcel_model start story).at true ≡ 0) }
 {
     closures_are_least::<Brand>();
     seconds_end::<Brand>();

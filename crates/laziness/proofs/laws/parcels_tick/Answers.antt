@@ -1,4 +1,4 @@
-use Rattle.laziness.proofs.ParcelLaws.{parcel_laws}
+use Rattle.laziness.proofs.ParcelLaws.{parcel_laws, parcel_reply, parcel_stamps}
 use Rattle.laziness.proofs.laws.parcels_tick.Goals as goal
 
 abbrev pub returns : goal.returns
@@ -10,4 +10,6 @@ returns c = record {
   lazy = c.lazy_equals_ticking.ensures tt;
   touches = c.entries_touch_their_closure.ensures tt;
   cells = c.cells_decide.ensures tt;
+  reply = parcel_reply;
+  stamps = parcel_stamps;
 }
