@@ -8,7 +8,7 @@ use Rattle.laziness.proofs.Bringing.{test, until, Alike, alike-same, alike-stand
 use Rattle.laziness.proofs.Locality.{after, Good, next-acts, good-next, one_run, locality, ends}
 use Rattle.laziness.proofs.Preparing.{closed-apart, lies-inside, event-closed, event-covers, prepares, ready}
 
-can-good : (M : Model) → ModelLaws M → (S : M.Id → Bool) (t : ℕ) (f : Stamps M) → CanBring M S t f → Good M S t f
+pub can-good : (M : Model) → ModelLaws M → (S : M.Id → Bool) (t : ℕ) (f : Stamps M) → CanBring M S t f → Good M S t f
 can-good M L S t f can = record { fine = can.fine; timely = can.timely; apart = closed-apart M L S t f can.fine can.closed }
 
 agree-alike : (M : Model) (S : M.Id → Bool) (f g : Stamps M) → AgreeStamped M S f g → Alike M S f g

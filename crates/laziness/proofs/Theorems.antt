@@ -10,14 +10,14 @@ use Rattle.laziness.specs.Lazy.{touched, prepared, lazily, lazily_all, stamped, 
 use Rattle.laziness.specs.Touch.{last_touch}
 use Rattle.laziness.specs.Theorems.{ClosuresAreLeast, SecondsEnd, AgreeUntil, TicksLocally, LazyEqualsTicking, EntriesTouchTheirClosure, CellsDecide}
 use Rattle.laziness.proofs.Bringing.{view-inside, alike-same}
-use Rattle.laziness.proofs.Preparing.{closed-apart, IsPrepared, prepares}
+use Rattle.laziness.proofs.Preparing.{closed-apart, IsPrepared, prepares, ready}
 use Rattle.laziness.proofs.Seconds.{second-ends, second-fine}
 use Rattle.laziness.proofs.Following.{Follows, happened-none}
 use Rattle.laziness.proofs.Asking.{same-until, Meets, meets, not-true}
 use Rattle.laziness.proofs.Closures.{closing-least}
 use Rattle.laziness.proofs.Worlds.{order-front, order-rest}
 use Rattle.laziness.proofs.Histories.{keeps, keeps-base, follows-later, lazy-stands, lazy-replies}
-use Rattle.laziness.proofs.Holding.{first-acts, one-first, same-first, same-event, same-brought, same-request, same-reply}
+use Rattle.laziness.proofs.Holding.{can-good, first-acts, one-first, same-first, same-event, same-brought, same-request, same-reply}
 
 -- tests that pass alike are equal
 both-ways : (b c : Bool) → (b ≡ true → c ≡ true) → (c ≡ true → b ≡ true) → b ≡ c
@@ -34,7 +34,13 @@ closures-least M L = record {
 }
 
 pub seconds-end : (M : Model) → ModelLaws M → SecondsEnd M
-seconds-end M L = record { none = second-ends M L; fine = second-fine M L }
+seconds-end M L = record {
+  none = second-ends M L;
+  fine = second-fine M L;
+  worlds = λ base history t is order later.
+      let follows = follows-later M L base history (last_touch M base history) (lazy M base history) t (keeps M L base history is order) later in
+      record { fine = follows.fine_ticking; none = follows.none };
+}
 
 -- a base is followed by what stands at its moment
 base-follows : (M : Model) → ModelLaws M → (base : Base M) (t : ℕ) → IsBase M base → base.moment ≤ t → Follows M t (stamped M base) (world M base [] t)
@@ -138,6 +144,7 @@ cells-decide M L = record {
   same_first = λ S t f g e can_f can_g agree next. same-first M L S t f g e agree next;
   event = same-event M L;
   cells = same-brought M L;
+  ready = λ S t a f can covers. ready M L S t a f (can-good M L S t f can) can.closed covers;
   request = same-request M L;
   reply = same-reply M L;
 }

@@ -1,7 +1,7 @@
 -- What holds of every model that meets the laws.
 use Rattle.std.specs.Prelude.{◌≡◌, ℕ, ◌<◌, ◌≤◌, Bool, true, not, List, [], ◌∷◌, ◌++◌}
 use Rattle.laziness.specs.Model.{Model}
-use Rattle.laziness.specs.Laws.{NoneDue, IsNext, IsClosed, Covers, Agree}
+use Rattle.laziness.specs.Laws.{NoneDue, IsNext, IsClosed, Covers, IsReady, Agree}
 use Rattle.laziness.specs.Closing.{closing, IsLeast}
 use Rattle.laziness.specs.Second.{everything, second}
 use Rattle.laziness.specs.World.{Base, IsBase, InOrder, last_moment, world, world_reply}
@@ -14,10 +14,13 @@ pub record ClosuresAreLeast (M : Model) : Type 0 where
   pub least : (u : M.Universe) (t : ℕ) (a : M.Ask) → M.Fine u → IsLeast M (M.view u) t a (closing M (M.view u) t a)
   pub only : (u : M.Universe) (t : ℕ) (a : M.Ask) (S : M.Id → Bool) → M.Fine u → IsLeast M (M.view u) t a S → (x : M.Id) → S x ≡ closing M (M.view u) t a x
 
--- A second ends with nothing due, and keeps the rules.
+-- A second ends with nothing due, and keeps the rules; so the ticking universe can be a base at any moment that is no earlier
+-- than its last entry.
 pub record SecondsEnd (M : Model) : Type 0 where
   pub none : (t : ℕ) (u : M.Universe) → M.Fine u → NoneDue M (everything M) t (second M t u)
   pub fine : (t : ℕ) (u : M.Universe) → M.Fine u → M.Fine (second M t u)
+  pub worlds : (base : Base M) (history : List M.Entry) (t : ℕ) → IsBase M base → InOrder M base.moment history → last_moment M base.moment history ≤ t
+      → IsBase M (record { moment = t; universe = world M base history t })
 
 -- two bases of one moment that show the same of a set, which is closed at a later second
 pub record AgreeUntil (M : Model) (S : M.Id → Bool) (t : ℕ) (base other : Base M) : Type 0 where
@@ -93,7 +96,9 @@ pub record CellsDecide (M : Model) : Type 0 where
   -- equal cells are brought alike
   pub cells : (S : M.Id → Bool) (t : ℕ) (f g : Stamps M) → CanBring M S t f → CanBring M S t g → AgreeStamped M S f g
       → AgreeStamped M S (brought M S t f) (brought M S t g)
-  -- and a request that they cover makes the same of them, with the same reply
+  -- a request that they cover can act on them then
+  pub ready : (S : M.Id → Bool) (t : ℕ) (a : M.Ask) (f : Stamps M) → CanBring M S t f → Covers M (M.view f.universe) a S → IsReady M S t a (brought M S t f).universe
+  -- and it makes the same of equal cells, with the same reply
   pub request : (S : M.Id → Bool) (t : ℕ) (a : M.Ask) (f g : Stamps M) → CanBring M S t f → CanBring M S t g → AgreeStamped M S f g
       → Covers M (M.view f.universe) a S → M.count f.universe ≡ M.count g.universe
       → AgreeStamped M S (request_acts M S t a f) (request_acts M S t a g)
