@@ -10,7 +10,7 @@ use Rattle.battle.specs.Course.{Volley, salvo, shot}
 use Rattle.battle.specs.Shots.{Shot, alive, found, is_alive, rank, unit_at}
 use Rattle.battle.specs.Sides.{Battle, Party, attackers, planet, enemy, units}
 use Rattle.battle.specs.Trace.{AreLegalAfter, IsLegalAfter}
-use Rattle.battle.specs.Turns.{Turn, half, has_fired, is_before, is_fought, is_open, is_same, turn_of}
+use Rattle.battle.specs.Turns.{Turn, half, has_fired, is_before, is_round_fought, is_open, is_same, turn_of}
 
 -- a legal trace with one legal shot more
 pub legal_more : (b : Battle) (before shots : List Shot) (s : Shot) → AreLegalAfter b before shots → IsLegalAfter b (before ++ shots) s → AreLegalAfter b before (shots ++ s ∷ [])
@@ -101,7 +101,7 @@ pub record AfterTurn (b : Battle) (before : List Shot) (t : Turn) (volley : Voll
 
 -- all that makes a turn open
 pub record Opens (b : Battle) (shots : List Shot) (t : Turn) : Type 0 where
-  pub fought : is_fought b shots t.round ≡ true
+  pub fought : is_round_fought b shots t.round ≡ true
   pub within : nat_lt t.place (length (units b t.party)) ≡ true
   pub alive : is_alive shots t.round t.party t.place ≡ true
   pub armed : nat_lt 0 (unit_at b t.party t.place).attack ≡ true
@@ -116,7 +116,7 @@ opens b shots t open_now =
     record { fought = one.0; within = one.1; alive = two.1; armed = three.1; ready = four.1 }
 
 -- a round that is fought has units on both sides
-pub both_alive : (b : Battle) (shots : List Shot) (round : ℕ) (party : Party) → is_fought b shots round ≡ true → 0 < length (alive b shots round party)
+pub both_alive : (b : Battle) (shots : List Shot) (round : ℕ) (party : Party) → is_round_fought b shots round ≡ true → 0 < length (alive b shots round party)
 both_alive b shots round party fought = side party
   where
     second : (nat_lt 0 (length (alive b shots round planet)) ≡ true)

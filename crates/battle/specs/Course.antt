@@ -5,6 +5,7 @@ use Rattle.rand_pcg.specs.Lcg.{Lcg}
 use Rattle.draws.specs.Draws.{after, draw, word_at}
 use Rattle.battle.specs.declared.combatant.Combatant.{Combatant}
 use Rattle.battle.specs.declared.fighter.Fighter.{Fighter}
+use Rattle.battle.specs.declared.limits.TheConstants.{MOST_ROUNDS, MOST_SHOTS}
 use Rattle.battle.specs.declared.outcome.Outcome.{Outcome}
 use Rattle.battle.specs.Outcomes.{verdict_of}
 use Rattle.battle.specs.Sides.{Battle}
@@ -70,7 +71,7 @@ salvo (suc most) count f targets stream =
 
 -- after a unit's turn: a unit of attack 0 does not fire
 abbrev pub turn : Fighter → List Combatant → Lcg → Volley
-turn f targets stream = if nat_lt 0 f.attack then salvo 4096 1 f targets stream else record { targets = targets; stream = stream }
+turn f targets stream = if nat_lt 0 f.attack then salvo MOST_SHOTS 1 f targets stream else record { targets = targets; stream = stream }
 
 -- after the turns of units, one after the other
 unfoldable pub volley : List Combatant → List Combatant → Lcg → Volley
@@ -114,7 +115,7 @@ start_of b = record { attackers = map unhurt b.attackers; planet = map unhurt b.
 
 -- a battle after its last round
 abbrev pub course : Battle → Field
-course b = rounds_after 6 (start_of b)
+course b = rounds_after MOST_ROUNDS (start_of b)
 
 -- how a battle ends by its course
 abbrev pub course_outcome : Field → Outcome

@@ -4,6 +4,7 @@ use Rattle.catalog.specs.RapidFire.{rapid_of}
 use Rattle.catalog.specs.declared.kind.Kind.{Kind}
 use Rattle.draws.specs.Draws.{draw}
 use Rattle.battle.specs.declared.combatant.Combatant.{Combatant}
+use Rattle.battle.specs.declared.limits.TheConstants.{MOST_SHOTS}
 
 -- a shot bounces off where its attack is below a hundredth of the target's full shield
 abbrev pub bounces : ℕ → Combatant → Bool
@@ -40,7 +41,7 @@ destroys attack word target =
 -- whether a draw decides if the shooter fires again: it has rapid fire against the target's kind, and this was not
 -- yet its 4096th shot of the round
 abbrev pub is_rapid : Kind → Kind → ℕ → Bool
-is_rapid shooter target count = nat_le 2 (rapid_of shooter target) && nat_lt count 4096
+is_rapid shooter target count = nat_le 2 (rapid_of shooter target) && nat_lt count MOST_SHOTS
 
 -- the shooter fires again where the number drawn below its rapid fire by this word is not 0
 abbrev pub fires_again : Kind → Kind → ℕ → ℕ → Bool

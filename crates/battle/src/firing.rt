@@ -1,17 +1,15 @@
 ghost use Rattle.std.specs.Prelude.{◌≡◌, ◌+◌, ◌*◌, ◌<◌, ◌≤◌, length, nat_lt, nat_le};
 ghost use Rattle.battle.specs.Course.{goes_on, salvo, shot, struck, turn, volley, weak_words};
 ghost use Rattle.battle.specs.Rules.{bounces, fires_again, is_rapid, is_weak};
-ghost use Rattle.battle.specs.Sides.{MOST_UNITS};
+ghost use Rattle.battle.specs.declared.limits.TheConstants.{MOST_SHOTS, MOST_UNITS};
 ghost use Rattle.battle.specs.Trace.{one_if};
 ghost use Rattle.draws.specs.Draws.{after, word_at};
 
 use crate::combatant::Combatant;
 use crate::fighter::Fighter;
+use crate::limits::MOST_SHOTS;
 use catalog::{Kind, rapid};
 use draws::Draws;
-
-/// The most shots that a unit fires in a round.
-const MOST_SHOTS: u32 = 4096;
 
 /// All turns of a half of a round: these units fire at those, one after the other.
 pub(crate) fn volley(shooters: &[Combatant], targets: &mut [Combatant], draws: &mut Draws)
@@ -41,8 +39,8 @@ fn turn(shooter: &Fighter, targets: &mut [Combatant], draws: &mut Draws)
 fn salvo(shooter: &Fighter, targets: &mut [Combatant], draws: &mut Draws)
     requires some { 1 ≤ length targets.old }
     requires most { length targets.old ≤ MOST_UNITS }
-    ensures targets { targets.new ≡ (salvo 4096 1 shooter.now targets.old draws.old).targets }
-    ensures words { draws.new ≡ (salvo 4096 1 shooter.now targets.old draws.old).stream }
+    ensures targets { targets.new ≡ (salvo MOST_SHOTS 1 shooter.now targets.old draws.old).targets }
+    ensures words { draws.new ≡ (salvo MOST_SHOTS 1 shooter.now targets.old draws.old).stream }
 {
     'shots: for count in 1..MOST_SHOTS + 1 {
         if !fire(shooter, count, targets, draws) {

@@ -6,6 +6,7 @@ mod fighter;
 mod fighting;
 mod firing;
 mod laws;
+mod limits;
 mod muster;
 mod outcome;
 mod part;

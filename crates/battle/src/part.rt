@@ -35,7 +35,8 @@ impl Model for Side {
 impl Side {
     ghost use Rattle.battle.specs.Course.{fighters_of};
     ghost use Rattle.battle.specs.Outcomes.{survivors};
-    ghost use Rattle.battle.specs.Sides.{IsSide, MOST_UNITS};
+    ghost use Rattle.battle.specs.Sides.{IsSide};
+    ghost use Rattle.battle.specs.declared.limits.TheConstants.{MOST_UNITS};
 
     /// A side without parts. It takes no memory.
     pub fn new(alloc: Global) -> Side

@@ -1,13 +1,11 @@
 ghost use Rattle.std.specs.Prelude.{◌≡◌, ℕ, ◌+◌, ◌≤◌, ◌&&◌, filter, length, map, nat_lt, not};
 ghost use Rattle.battle.specs.Course.{round_after, rounds_after, standing, with_full_shield};
-ghost use Rattle.battle.specs.Sides.{MOST_UNITS};
+ghost use Rattle.battle.specs.declared.limits.TheConstants.{MOST_ROUNDS, MOST_UNITS};
 
 use crate::combatant::Combatant;
 use crate::firing::volley;
+use crate::limits::MOST_ROUNDS;
 use draws::Draws;
-
-/// The most rounds of a battle.
-const MOST_ROUNDS: u8 = 6;
 
 /// The rounds of a battle, six at most, each where both sides have units; how many were fought.
 pub(crate) fn fight_rounds(
@@ -18,7 +16,7 @@ pub(crate) fn fight_rounds(
     requires attackers_most { length attackers.old.items ≤ MOST_UNITS }
     requires planet_most { length planet.old.items ≤ MOST_UNITS }
     ensures course { record { attackers = attackers.new.items; planet = planet.new.items; stream = draws.new; rounds = result }
-        ≡ rounds_after 6 (record { attackers = attackers.old.items; planet = planet.old.items; stream = draws.old; rounds = 0 }) }
+        ≡ rounds_after MOST_ROUNDS (record { attackers = attackers.old.items; planet = planet.old.items; stream = draws.old; rounds = 0 }) }
     ensures attackers_fewer { length attackers.new.items ≤ MOST_UNITS }
     ensures planet_fewer { length planet.new.items ≤ MOST_UNITS }
 {

@@ -4,7 +4,7 @@ ghost use Rattle.catalog.specs.declared.classes.TheConstants.{UNIT_KINDS};
 ghost use Rattle.battle.specs.Course.{fighters_of};
 ghost use Rattle.battle.specs.Outcomes.{count_of, survivors};
 ghost use Rattle.battle.specs.Places.{unit_number};
-ghost use Rattle.battle.specs.Sides.{MOST_UNITS};
+ghost use Rattle.battle.specs.declared.limits.TheConstants.{MOST_UNITS};
 ghost use Rattle.battle.specs.Trace.{one_if};
 
 use crate::combatant::Combatant;

@@ -3,7 +3,8 @@ use Rattle.battle.specs.declared.combatant.Combatant.{Combatant}
 use Rattle.battle.specs.declared.part.Part.{Part}
 use Rattle.battle.specs.Course.{fighters_of, unhurt}
 use Rattle.battle.specs.Outcomes.{survivors, verdict_of}
-use Rattle.battle.specs.Sides.{IsSide, MOST_UNITS, fighters}
+use Rattle.battle.specs.Sides.{IsSide, fighters}
+use Rattle.battle.specs.declared.limits.TheConstants.{MOST_UNITS}
 use Rattle.battle.proofs.Again.{still_side}
 use Rattle.std.proofs.lemmas.List.{length-map}
 use Rattle.battle.proofs.Ends.{ends}

@@ -1,7 +1,7 @@
 -- What the rounds that are left come to, from here, is what all rounds come to.
 use Rattle.std.proofs.Common.{◌≡◌, ◌-◌, ◌≤◌, length}
 use Rattle.battle.specs.Course.{rounds_after}
-use Rattle.battle.specs.Sides.{MOST_UNITS}
+use Rattle.battle.specs.declared.limits.TheConstants.{MOST_UNITS}
 use Rattle.battle.proofs.RoundByRound.{field_of}
 use Rattle.battle.proofs.rounds.fight_rounds.Given as goal
 
