@@ -19,7 +19,7 @@ as_many cs fs same = ap (nat_lt 0) (sym (ap length same ∙ length-map cs (λ (c
 abbrev ended : Verdict → ℕ → Outcome
 ended verdict rounds = record { verdict = verdict; rounds = rounds }
 
-same_outcome : (b : Battle) (field : Field) (ends : Ends b field) → course_outcome field ≡ outcome b ends.shots
+pub same_outcome : (b : Battle) (field : Field) (ends : Ends b field) → course_outcome field ≡ outcome b ends.shots
 same_outcome b field ends =
     ap (λ one. ended (verdict_of one (nat_lt 0 (length field.planet))) field.rounds) (as_many field.attackers (left b ends.shots attackers) ends.attackers_left)
     ∙ ap (λ two. ended (verdict_of (nat_lt 0 (length (left b ends.shots attackers))) two) field.rounds) (as_many field.planet (left b ends.shots planet) ends.planet_left)

@@ -10,6 +10,7 @@ pub mod OneTrace
 pub mod Kept
 pub mod Again
 pub mod Fought
+pub mod CourseEnds
 pub mod Strengths
 pub mod OneShot
 pub mod Volleys

@@ -8,7 +8,7 @@ use Rattle.battle.specs.declared.fighter.Fighter.{Fighter}
 use Rattle.battle.specs.declared.limits.TheConstants.{MOST_ROUNDS, MOST_SHOTS}
 use Rattle.battle.specs.declared.outcome.Outcome.{Outcome}
 use Rattle.battle.specs.Outcomes.{verdict_of}
-use Rattle.battle.specs.Sides.{Battle}
+use Rattle.battle.specs.Sides.{Battle, Party, attackers, planet}
 use Rattle.battle.specs.Rules.{destroys, fires_again, hull_left, is_rapid, is_weak, shield_loss}
 use Rattle.battle.specs.Shots.{nobody}
 use Rattle.battle.specs.Trace.{one_if}
@@ -121,6 +121,11 @@ course b = rounds_after MOST_ROUNDS (start_of b)
 abbrev pub course_outcome : Field → Outcome
 course_outcome field =
     record { verdict = verdict_of (nat_lt 0 (length field.attackers)) (nat_lt 0 (length field.planet)); rounds = field.rounds }
+
+-- the combatants of one side
+abbrev pub combatants : Field → Party → List Combatant
+combatants field attackers = field.attackers
+combatants field planet = field.planet
 
 -- the units of combatants
 abbrev pub fighters_of : List Combatant → List Fighter
