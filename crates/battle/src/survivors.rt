@@ -7,7 +7,7 @@ ghost use Rattle.battle.specs.declared.limits.TheConstants.{MOST_UNITS};
 
 use crate::combatant::Combatant;
 use crate::part::Part;
-use catalog::Kind;
+use catalog::{Kind, UNIT_KINDS};
 
 /// Gives each part of a side the units that are left of it.
 pub(crate) fn keep(side: &mut [Part], living: &[Combatant])
@@ -48,9 +48,6 @@ fn unit_place(kind: Kind) -> Option<usize>
     ensures found { IfSome result (λ place. unit_number place ≡ kind_number kind) }
     ensures none { IfNone result ((place : ℕ) → place < 22 → unit_number place ≢ kind_number kind) }
 {
-    match kind.number() {
-        number @ 41..=54 => Some(usize::from(number - 41)),
-        number @ 61..=68 => Some(usize::from(number - 47)),
-        _ => None,
-    }
+    let number = kind.number();
+    UNIT_KINDS.iter().position(|unit| unit.number() == number)
 }
