@@ -8,7 +8,7 @@ use Rattle.std.proofs.lemmas.List.Sums.{sum_by-cons}
 use Rattle.battle.proofs.Opening.{make, same_turn}
 use Rattle.battle.proofs.LegalShots.{count_at, stream_at, targets_at}
 use Rattle.battle.proofs.Salvo.{AfterTurn, Fired, Keeps, keeps_then, salvo_fires}
-use Rattle.battle.specs.Course.{Volley, salvo, turn, volley}
+use Rattle.battle.specs.Course.{Volley, after_salvo, after_turn, after_volley}
 use Rattle.battle.specs.Shots.{Shot, alive, found, is_alive, unit_at}
 use Rattle.battle.specs.Sides.{Battle, Party, attackers, planet, units}
 use Rattle.battle.specs.Trace.{AreLegalAfter}
@@ -123,13 +123,13 @@ armed_open b shots t reached fought within alive armed =
 
 -- one turn
 turn_taken : (b : Battle) (before shots : List Shot) (t : Turn) → Reached b shots t → Keeps b before shots t.round t.party → is_round_fought b shots t.round ≡ true → t.place < length (units b t.party)
-    → is_alive shots t.round t.party t.place ≡ true → AfterVolley b before (next_place t) (turn (unit_at b t.party t.place) (targets_at b shots t) (stream_at b shots))
+    → is_alive shots t.round t.party t.place ≡ true → AfterVolley b before (next_place t) (after_turn (unit_at b t.party t.place) (targets_at b shots t) (stream_at b shots))
 turn_taken b before shots t reached keeps fought within alive = either (nat_lt 0 (unit_at b t.party t.place).attack) refl
   where
-    fires : is_open b shots t ≡ true → AfterVolley b before (next_place t) (salvo 4096 1 (unit_at b t.party t.place) (targets_at b shots t) (stream_at b shots))
+    fires : is_open b shots t ≡ true → AfterVolley b before (next_place t) (after_salvo 4096 1 (unit_at b t.party t.place) (targets_at b shots t) (stream_at b shots))
     fires open_now =
         let first : count_at shots t ≡ 1 = ap (λ n. 1 + n) (none_counted t shots reached.past) in
-        let after = subst (λ n. AfterTurn b shots t (salvo 4096 n (unit_at b t.party t.place) (targets_at b shots t) (stream_at b shots))) first
+        let after = subst (λ n. AfterTurn b shots t (after_salvo 4096 n (unit_at b t.party t.place) (targets_at b shots t) (stream_at b shots))) first
         (salvo_fires 4096 b shots t (fired_none b shots t reached) open_now (omega (arith, first)) (omega (arith, first))) in
         record {
           shots = after.shots;
@@ -140,7 +140,7 @@ turn_taken b before shots t reached keeps fought within alive = either (nat_lt 0
         }
 
     either : (armed : Bool) → nat_lt 0 (unit_at b t.party t.place).attack ≡ armed
-        → AfterVolley b before (next_place t) (cond armed (salvo 4096 1 (unit_at b t.party t.place) (targets_at b shots t) (stream_at b shots)) (record { targets = targets_at b shots t; stream = stream_at b shots }))
+        → AfterVolley b before (next_place t) (cond armed (after_salvo 4096 1 (unit_at b t.party t.place) (targets_at b shots t) (stream_at b shots)) (record { targets = targets_at b shots t; stream = stream_at b shots }))
     either true armed = fires (armed_open b shots t reached fought within alive armed)
     either false unarmed = record { shots = shots; reached = reached_over b shots t reached (unarmed_closed b shots t unarmed); keeps = keeps; targets = refl; stream = refl }
 
@@ -155,8 +155,8 @@ fought_kept b before shots round party keeps =
 
 pub volley_fires : (count : ℕ) (b : Battle) (before shots : List Shot) (t last : Turn) → last ≡ make t.round t.party (t.place + count) → last.place ≡ length (units b t.party)
     → Reached b shots t → Keeps b before shots t.round t.party → is_round_fought b before t.round ≡ true
-    → AfterVolley b before last (volley (shooters_from b before t count) (targets_at b shots t) (stream_at b shots))
-unfolding volley
+    → AfterVolley b before last (after_volley (shooters_from b before t count) (targets_at b shots t) (stream_at b shots))
+unfolding after_volley
 volley_fires zero b before shots t last is_last all reached keeps fought =
     subst (λ l. AfterVolley b before l (record { targets = targets_at b shots t; stream = stream_at b shots })) (ap (make t.round t.party) (omega arith) ∙ sym is_last)
     (record { shots = shots; reached = reached; keeps = keeps; targets = refl; stream = refl })
@@ -174,9 +174,9 @@ volley_fires (suc count) b before shots t last is_last all reached keeps fought 
     fought_now = fought_kept b before shots t.round t.party keeps ∙ fought
 
     either : (alive : Bool) → is_alive before t.round t.party t.place ≡ alive
-        → ((later : List Shot) → Reached b later (next_place t) → Keeps b before later t.round t.party → AfterVolley b before last (volley (shooters_from b before (next_place t) count) (targets_at b later t) (stream_at b later)))
+        → ((later : List Shot) → Reached b later (next_place t) → Keeps b before later t.round t.party → AfterVolley b before last (after_volley (shooters_from b before (next_place t) count) (targets_at b later t) (stream_at b later)))
         → AfterVolley b before last
-        (volley
+        (after_volley
         (map (found b before t.round t.party) (cond alive (t.place ∷ filter (is_alive before t.round t.party) (range_with_len (t.place + 1) count)) (filter (is_alive before t.round t.party) (range_with_len (t.place + 1) count))))
         (targets_at b shots t)
         (stream_at b shots))
@@ -184,6 +184,6 @@ volley_fires (suc count) b before shots t last is_last all reached keeps fought 
     either true living rest =
         let one = turn_taken b before shots t reached keeps fought_now within (keeps.each t.round t.party t.place (omega arith) ∙ living) in
         let others = shooters_from b before (next_place t) count in
-        let next = turn (unit_at b t.party t.place) (targets_at b shots t) (stream_at b shots) in
-        subst (λ targets. AfterVolley b before last (volley others targets next.stream)) (sym one.targets)
-        (subst (λ stream. AfterVolley b before last (volley others (targets_at b one.shots t) stream)) (sym one.stream) (rest one.shots one.reached one.keeps))
+        let next = after_turn (unit_at b t.party t.place) (targets_at b shots t) (stream_at b shots) in
+        subst (λ targets. AfterVolley b before last (after_volley others targets next.stream)) (sym one.targets)
+        (subst (λ stream. AfterVolley b before last (after_volley others (targets_at b one.shots t) stream)) (sym one.stream) (rest one.shots one.reached one.keeps))

@@ -18,5 +18,4 @@ pub mod Musters
 pub mod RoundByRound
 pub mod Changes
 pub mod Counts
-pub mod Ends
 pub mod UnitCounts
