@@ -79,7 +79,7 @@ unfolding shot_at
 goes_on_is b before t some =
     rw (target_is b before t some) (ap (fires_again (unit_at b t.party t.place).kind (aimed_at b before t).fighter.kind (count_at before t)) (word_more _ (drawn before) b.stream))
 
--- where the stream stands
+-- the place at which the stream stands
 pub stream_is : (b : Battle) (before : List Shot) (t : Turn) → 0 < length (alive b before t.round (enemy t.party))
     → (after_shot (count_at before t) (unit_at b t.party t.place) (targets_at b before t) (stream_at b before)).stream ≡ stream_at b (before ++ shot_at b before t ∷ [])
 unfolding shot_at

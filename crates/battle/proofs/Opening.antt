@@ -7,7 +7,7 @@ use Rattle.battle.specs.Shots.{Shot, is_alive, rank, unit_at}
 use Rattle.battle.specs.Sides.{Battle, Party, attackers, planet, units}
 use Rattle.battle.specs.Turns.{Turn, IsNext, half, has_fired, is_before, is_round_fought, is_open, is_same, turn_of}
 
--- a shot ends a turn where it is a shot of that turn and does not let fire again
+-- a shot ends a turn if it is a shot of that turn and does not let the unit fire again
 abbrev pub ends : Shot → Turn → Bool
 ends s u = is_same (turn_of s) u && not s.again
 

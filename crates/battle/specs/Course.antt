@@ -21,7 +21,7 @@ with_full_shield c = record c { shield = c.fighter.shield }
 abbrev pub unhurt : Fighter → Combatant
 unhurt f = record { fighter = f; shield = f.shield; hull = f.hull; is_destroyed = false }
 
--- a unit after a shot at it, where this word decides over a weak hull
+-- a unit after a shot at it; if its hull is weak then, this word decides
 abbrev pub struck : ℕ → ℕ → Combatant → Combatant
 struck attack word target =
     record target {

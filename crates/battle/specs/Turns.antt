@@ -26,12 +26,12 @@ is_same t u = half t == half u && t.place == u.place
 abbrev pub is_before : Turn → Turn → Bool
 is_before t u = nat_lt (half t) (half u) || half t == half u && nat_lt t.place u.place
 
--- a round is fought, of six at most, where both sides have units alive at its start
+-- a round is fought, of six at most, if both sides have units alive at its start
 abbrev pub is_round_fought : Battle → List Shot → ℕ → Bool
 is_round_fought b shots round =
     nat_le 1 round && nat_le round MOST_ROUNDS && nat_lt 0 (length (alive b shots round attackers)) && nat_lt 0 (length (alive b shots round planet))
 
--- a unit has fired all its shots of a round where one of them does not let it fire again
+-- a unit has fired all its shots of a round if one of them does not let it fire again
 abbrev pub has_fired : List Shot → Turn → Bool
 has_fired shots t = list_any (λ s. is_same (turn_of s) t && not s.again) shots
 

@@ -23,7 +23,7 @@ pub(crate) fn volley(shooters: &[Combatant], targets: &mut [Combatant], draws: &
     }
 }
 
-/// A unit's turn: one of attack 0 doesn't fire.
+/// A unit's turn. A unit of attack 0 does not fire.
 fn take_turn(shooter: &Fighter, targets: &mut [Combatant], draws: &mut Draws)
     requires some { 1 ≤ length targets.old }
     requires most { length targets.old ≤ MOST_UNITS }
@@ -49,7 +49,7 @@ fn salvo(shooter: &Fighter, targets: &mut [Combatant], draws: &mut Draws)
     }
 }
 
-/// One shot, this unit's `count`th of the round; whether it fires again.
+/// Fires one shot, this unit's `count`th of the round. It answers whether the unit fires again.
 fn fire(shooter: &Fighter, count: u32, targets: &mut [Combatant], draws: &mut Draws) -> bool
     requires some { 1 ≤ length targets.old }
     requires most { length targets.old ≤ MOST_UNITS }

@@ -18,8 +18,8 @@ pub fn battles_have_one_trace()
     ensures one { (b : Battle) (xs ys : List Shot) → IsTrace b xs → IsTrace b ys → xs ≡ ys }
 {}
 
-/// A battle ends as its course ends, whatever its trace is taken for: the outcome, and on both sides the units that are
-/// left. So `battle_end` is a function that gives how a battle ends, and nothing else is. It does nothing: the laws are
+/// A battle ends as its course ends: its trace leads to the outcome of its course, and on each side to the units that
+/// are left in its course. So the function `battle_end` gives the one end of each battle. It does nothing: the laws are
 /// its contract.
 pub fn battles_end_as_their_course()
     ensures outcome { (b : Battle) (shots : List Shot) → IsTrace b shots

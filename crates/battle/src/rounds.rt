@@ -7,7 +7,7 @@ use crate::firing::volley;
 use crate::limits::MOST_ROUNDS;
 use draws::Draws;
 
-/// The rounds of a battle, six at most, each where both sides have units; how many were fought.
+/// Fights the rounds of a battle, six at most and each only if both sides have units. It answers how many were fought.
 pub(crate) fn fight_rounds(
     attackers: &mut Vec<Combatant>,
     planet: &mut Vec<Combatant>,

@@ -42,7 +42,7 @@ fn add_one(part: &mut Part, kind: Kind)
     }
 }
 
-/// The place of a kind among the kinds of units; `None` where it is no unit.
+/// The place of a kind among the kinds of units, counted from 0. `None` if it is no unit.
 fn unit_place(kind: Kind) -> Option<usize>
     ensures within { IfSome result (λ place. place < 22) }
     ensures found { IfSome result (λ place. unit_number place ≡ kind_number kind) }
