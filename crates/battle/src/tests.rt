@@ -532,13 +532,12 @@ fn a_side_can_fight_in_order_and_within_the_limit(rt: HostRuntime) -> Result<(),
     side.push(first)?;
     side.push(second)?;
     assert!(rt; !side.is_empty() && side.can_fight());
-    let mut parts = side.into_vec();
-    parts.push(Part {
+    side.push(Part {
         number: 5,
         techs: NO_TECHS,
         n: [1; 22],
     })?;
-    assert!(rt; !Side::from_vec(parts).can_fight());
+    assert!(rt; !side.can_fight());
 
     let mut twice = Side::new(rt.alloc());
     twice.push(second)?;

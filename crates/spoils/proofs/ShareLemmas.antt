@@ -1,10 +1,8 @@
 -- A share is what its bounds say, and nothing else is.
-use Rattle.std.proofs.Common.{◌≡◌, ℕ, ◌+◌, ◌-◌, ◌*◌, ◌/◌, ◌<◌, ◌≤◌, ◌⊎◌, inl, inr, min, ap, ◌∙◌, arith}
+use Rattle.std.proofs.Common.{◌≡◌, ℕ, ◌+◌, ◌*◌, ◌/◌, ◌<◌, ◌≤◌, inl, inr, min, arith}
 use Rattle.std.proofs.Math.Nat.{mul-le-mul_left}
 use Rattle.std.proofs.lemmas.Bool.{cases_order}
 use Rattle.base_num.proofs.Quotients.{floor_bounds}
-use Rattle.spoils.specs.Harvest.{IsScraping, Scraping, scraping}
-use Rattle.spoils.specs.Loot.{IsLoading, Loading, loading}
 use Rattle.spoils.specs.Shares.{IsShare}
 
 pub share_bounds : (room parts there : ℕ) → 1 ≤ parts → IsShare room parts there (min (room / parts) there)

@@ -1,5 +1,5 @@
 -- The steps of loading and of scraping are shares, and only they are.
-use Rattle.std.proofs.Common.{◌≡◌, ℕ, ◌+◌, ◌-◌, ◌*◌, ◌/◌, ◌<◌, ◌≤◌, min, ap, ◌∙◌, refl, arith}
+use Rattle.std.proofs.Common.{◌≡◌, ℕ, ◌-◌, ◌/◌, min, ap, ◌∙◌, refl, arith}
 use Rattle.spoils.proofs.ShareLemmas.{share_bounds, share_is}
 use Rattle.spoils.specs.Harvest.{IsScraping, Scraping, scraping}
 use Rattle.spoils.specs.Loot.{IsLoading, Loading, loading}
@@ -42,7 +42,6 @@ loading_once room metal crystal deuterium steps is =
     (whole_is _ _ _ is.first_deuterium)
     (share_is _ 2 _ _ (omega arith) is.second_metal)
     (whole_is _ _ _ is.second_crystal)
-
 
 pub scraping_is : (room metal crystal : ℕ) → IsScraping room metal crystal (scraping room metal crystal)
 unfolding scraping

@@ -1,4 +1,4 @@
-use Rattle.std.proofs.Common.{rules, arith}
+use Rattle.std.proofs.Common.{rules}
 use Rattle.battle.proofs.Counts.{added, not_added}
 use Rattle.battle.proofs.survivors.add_one.Goals as goal
 
