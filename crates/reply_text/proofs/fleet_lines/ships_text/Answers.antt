@@ -4,11 +4,9 @@ use Rattle.catalog.specs.Texts.{ship_part, ship_parts}
 use Rattle.catalog.specs.declared.kind.Kind.TheVariants.{MetalMine}
 use Rattle.catalog.specs.declared.ships.TheConstants.{SHIPS}
 use Rattle.catalog.proofs.Parts.{join-more, no_parts, parts-absent, parts-present, some_parts}
-use Rattle.reply_text.proofs.Fronts.{appended_more}
-use Rattle.reply_text.proofs.words.push_ship_parts.Goals as goal
+use Rattle.reply_text.proofs.fleet_lines.ships_text.Goals as goal
 
-pub ships-preserved-then-count-eq0 :
-    goal.ships-preserved-then-count-eq0
+pub ships-preserved-then-count-eq0 : goal.ships-preserved-then-count-eq0
 ships-preserved-then-count-eq0 c =
     let same = parts-absent SHIPS c.args.counts.now c.ships.i (omega arith) (omega arith) c.if-count-eq0.true in
     rw same c.ships.invariant
@@ -23,5 +21,5 @@ ships-preserved c =
     let whole = ap (join_with_byte 44) more ∙ join-more 44 parts part ∙ ap (λ b. join_with_byte 44 parts ++ cond b part (44 ∷ part)) (sym c.ships.invariant.first) in
     record {
       first = sym (ap no_parts more ∙ some_parts parts part);
-      appended = appended_more _ _ _ _ _ _ c.in_ok-push_ship.ensures.ok c.ships.invariant.appended whole;
+      written = c.in_ok-push_ship.ensures ∙ ap (λ text. text ++ cond c.ships.is_first part (44 ∷ part)) c.ships.invariant.written ∙ sym whole;
     }
