@@ -14,7 +14,7 @@ use crate::ship_counts::ships;
 use base_ids::{Coord, FleetNumber, LAST_NUMBER, System};
 use base_text::{Parts, number, positive_number};
 use catalog::{
-    Amounts, Building, CAP, Count, Mission, Ships, SpeedSetting, Technology, Tenths, UNITS, Unit,
+    Amounts, Building, CAP, Class, Count, Mission, Ships, SpeedSetting, Technology, Tenths, UNITS, Unit,
     Work,
 };
 
