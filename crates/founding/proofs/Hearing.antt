@@ -16,7 +16,7 @@ use Rattle.tick_model.specs.Strict.{universe_of}
 use Rattle.tick_model.specs.declared.strict.StrictUniverse.{StrictUniverse}
 use Rattle.founding.specs.Drafts.{founded, Adds, AddsNothing, Drafted, Grows}
 use Rattle.founding.specs.Founding.{IsBadNext, IsEnd, IsUnfinished}
-use Rattle.founding.specs.Indexes.{draft_of}
+use Rattle.founding.specs.DraftMaps.{draft_of}
 use Rattle.founding.specs.Lines.{heading_words}
 use Rattle.founding.specs.Reading.{fault_of, Reads, Stops}
 use Rattle.founding.specs.Steps.{fault_at, Steps}
