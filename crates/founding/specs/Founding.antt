@@ -53,7 +53,7 @@ TakesMemory (Some draft) line = (new : Drafted) × Adds (Some draft) line new
 
 -- The lines begin a founding text, and the last one that was read adds something that takes memory; the lines `later`
 -- stand behind it.
-pub record WantsMemory (lines later : List (List ℕ)) : Type 0 where
+pub record NeedsMemory (lines later : List (List ℕ)) : Type 0 where
   pub good : List (List ℕ)
   pub said : Option Drafted
   pub line : List ℕ

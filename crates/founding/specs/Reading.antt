@@ -12,7 +12,7 @@ use Rattle.request_text.specs.declared.line_reader.Stop.TheVariants.{Fault as At
 use Rattle.tick_model.specs.Strict.{universe_of}
 use Rattle.tick_model.specs.declared.strict.StrictUniverse.{StrictUniverse}
 use Rattle.founding.specs.Drafts.{Drafted}
-use Rattle.founding.specs.Founding.{Founds, IsBadAt, IsBadNext, IsUnfinished, TakesMemory, WantsMemory}
+use Rattle.founding.specs.Founding.{Founds, IsBadAt, IsBadNext, IsUnfinished, TakesMemory, NeedsMemory}
 use Rattle.founding.specs.declared.fault.FoundingFault.{FoundingFault}
 use Rattle.founding.specs.declared.fault.FoundingFault.TheVariants.{Bad, ReadFault, Spent, Memory}
 
@@ -24,7 +24,7 @@ Reads text reader more (Ok universe) = (rest : List ℕ) × Founds (lines text) 
 Reads text reader more (Err (Bad n)) = IsBadAt (lines text) n
 Reads text reader more (Err ReadFault) = IsUnfinished text more
 Reads text reader more (Err Spent) = IsUnfinished text more
-Reads text reader more (Err Memory) = (rest : List ℕ) × WantsMemory (lines text) (lines rest) × Sees reader more rest
+Reads text reader more (Err Memory) = (rest : List ℕ) × NeedsMemory (lines text) (lines rest) × Sees reader more rest
 
 -- Reading stops at the first line of a text, which has this number. The line is bad; or it was not taken whole; or it
 -- adds something, and memory ran out.
