@@ -16,7 +16,8 @@ use Rattle.battle.proofs.UnitCounts.{length-part}
 use Rattle.battle.specs.declared.fighter.Fighter.{Fighter}
 use Rattle.battle.specs.declared.part.Part.{Part}
 use Rattle.battle.specs.Outcomes.{count_of, survivors}
-use Rattle.battle.specs.Sides.{IsSide, MOST_UNITS, part_fighters}
+use Rattle.battle.specs.Sides.{IsSide, part_fighters}
+use Rattle.battle.specs.declared.limits.TheConstants.{MOST_UNITS}
 
 -- a number behind its kinds is not among them
 none_later : (part from : ℕ) (f : Fighter) (kinds : List Kind) → kind_number f.kind < from → Rise from (map kind_number kinds) → sum_by (λ kind. cond (is_one part kind f) 1 0) kinds ≡ 0

@@ -10,12 +10,12 @@ use Rattle.battle.proofs.Opening.{make, same_party}
 use Rattle.battle.proofs.LegalShots.{stream_at}
 use Rattle.battle.proofs.Salvo.{Keeps, keeps_first, before_half, rank_most}
 use Rattle.battle.proofs.Halves.{AfterVolley, Reached, all_turned, fought_kept, volley_fires}
-use Rattle.battle.specs.Course.{Field, Volley, both_stand, course, fighters_of, round_after, rounds_after, standing, start_of, unhurt, volley, with_full_shield}
+use Rattle.battle.specs.Course.{Field, Volley, both_stand, course, fighters_of, after_round, after_rounds, standing, start_of, unhurt, after_volley, with_full_shield}
 use Rattle.battle.specs.Outcomes.{left, rounds}
 use Rattle.battle.specs.Shots.{Shot, alive, found, is_alive, is_at, is_destroyed, nobody, shield_taken, unit_at}
 use Rattle.battle.specs.Sides.{Battle, Party, attackers, planet, units}
 use Rattle.battle.specs.Trace.{AreLegalAfter, IsTrace}
-use Rattle.battle.specs.Turns.{Turn, half, has_fired, is_before, is_fought, is_open, turn_of}
+use Rattle.battle.specs.Turns.{Turn, half, has_fired, is_before, is_round_fought, is_open, turn_of}
 use Rattle.battle.specs.declared.combatant.Combatant.{Combatant}
 use Rattle.battle.specs.declared.fighter.Fighter.{Fighter}
 
@@ -116,10 +116,10 @@ standing_is b shots round party (place ∷ places) past =
 -- a unit that is not there has no turn
 absent_closed : (b : Battle) (shots : List Shot) (u : Turn) → length (units b u.party) ≤ u.place → is_open b shots u ≡ false
 absent_closed b shots u absent =
-    and_left _ (not (has_fired shots u)) (and_left _ (nat_lt 0 (unit_at b u.party u.place).attack) (and_left _ (is_alive shots u.round u.party u.place) (and_right (is_fought b shots u.round) (nat_lt u.place (length (units b u.party))) (le-ltb u.place (length (units b u.party)) absent))))
+    and_left _ (not (has_fired shots u)) (and_left _ (nat_lt 0 (unit_at b u.party u.place).attack) (and_left _ (is_alive shots u.round u.party u.place) (and_right (is_round_fought b shots u.round) (nat_lt u.place (length (units b u.party))) (le-ltb u.place (length (units b u.party)) absent))))
 
 -- in a round that is not fought there is no turn
-unfought_closed : (b : Battle) (shots : List Shot) (u : Turn) → is_fought b shots u.round ≡ false → is_open b shots u ≡ false
+unfought_closed : (b : Battle) (shots : List Shot) (u : Turn) → is_round_fought b shots u.round ≡ false → is_open b shots u ≡ false
 unfought_closed b shots u unfought = rw unfought refl
 
 -- behind the last place of a half the next half is reached
@@ -146,10 +146,10 @@ pub record AtRound (b : Battle) (shots : List Shot) (round : ℕ) (field : Field
   pub planet_is : field.planet ≡ map (found b shots round planet) (alive b shots round planet)
   pub stream_is : field.stream ≡ stream_at b shots
   pub rounds_are : round ≡ field.rounds + 1
-  pub fought : (r : ℕ) → 1 ≤ r → r < round → is_fought b shots r ≡ true
+  pub fought : (r : ℕ) → 1 ≤ r → r < round → is_round_fought b shots r ≡ true
 
 -- a round with units on both sides is fought
-round_fought : (b : Battle) (shots : List Shot) (round : ℕ) (field : Field) → AtRound b shots round field → both_stand field ≡ true → round ≤ 6 → is_fought b shots round ≡ true
+round_fought : (b : Battle) (shots : List Shot) (round : ℕ) (field : Field) → AtRound b shots round field → both_stand field ≡ true → round ≤ 6 → is_round_fought b shots round ≡ true
 round_fought b shots round field at both most =
     let parts = and_parts (nat_lt 0 (length field.attackers)) (nat_lt 0 (length field.planet)) both in
     let first : nat_lt 0 (length (alive b shots round attackers)) ≡ true =
@@ -174,32 +174,32 @@ record AfterBoth (b : Battle) (before : List Shot) (round : ℕ) (first second :
   pub stream : second.stream ≡ stream_at b shots
 
 abbrev first_volley : Battle → List Shot → ℕ → Volley
-first_volley b before round = volley (map (found b before round attackers) (alive b before round attackers)) (map (found b before round planet) (alive b before round planet)) (stream_at b before)
+first_volley b before round = after_volley (map (found b before round attackers) (alive b before round attackers)) (map (found b before round planet) (alive b before round planet)) (stream_at b before)
 
 abbrev second_volley : Battle → List Shot → ℕ → Volley
-second_volley b before round = volley (first_volley b before round).targets (map (found b before round attackers) (alive b before round attackers)) (first_volley b before round).stream
+second_volley b before round = after_volley (first_volley b before round).targets (map (found b before round attackers) (alive b before round attackers)) (first_volley b before round).stream
 
-attackers_fire : (b : Battle) (before : List Shot) (round : ℕ) → Reached b before (make round attackers 0) → is_fought b before round ≡ true
+attackers_fire : (b : Battle) (before : List Shot) (round : ℕ) → Reached b before (make round attackers 0) → is_round_fought b before round ≡ true
     → AfterVolley b before (make round attackers (length b.attackers)) (first_volley b before round)
 attackers_fire b before round reached fought =
     volley_fires (length b.attackers) b before before (make round attackers 0) (make round attackers (length b.attackers)) (ap (make round attackers) (omega arith)) refl reached (keeps_first b before round attackers) fought
 
-planet_fires : (b : Battle) (shots : List Shot) (round : ℕ) → Reached b shots (make round attackers (length b.attackers)) → is_fought b shots round ≡ true
-    → AfterVolley b shots (make round planet (length b.planet)) (volley (map (found b shots round planet) (alive b shots round planet)) (map (found b shots round attackers) (alive b shots round attackers)) (stream_at b shots))
+planet_fires : (b : Battle) (shots : List Shot) (round : ℕ) → Reached b shots (make round attackers (length b.attackers)) → is_round_fought b shots round ≡ true
+    → AfterVolley b shots (make round planet (length b.planet)) (after_volley (map (found b shots round planet) (alive b shots round planet)) (map (found b shots round attackers) (alive b shots round attackers)) (stream_at b shots))
 planet_fires b shots round reached fought =
     volley_fires (length b.planet) b shots shots (make round planet 0) (make round planet (length b.planet)) (ap (make round planet) (omega arith)) refl
     (half_reached b shots (make round attackers (length b.attackers)) (make round planet 0) refl (omega arith) refl reached)
     (keeps_first b shots round planet)
     fought
 
-both_volleys : (b : Battle) (before : List Shot) (round : ℕ) → Reached b before (make round attackers 0) → is_fought b before round ≡ true → AfterBoth b before round (first_volley b before round) (second_volley b before round)
+both_volleys : (b : Battle) (before : List Shot) (round : ℕ) → Reached b before (make round attackers 0) → is_round_fought b before round ≡ true → AfterBoth b before round (first_volley b before round) (second_volley b before round)
 both_volleys b before round reached fought =
     let one = attackers_fire b before round reached fought in
     let two = planet_fires b one.shots round one.reached (fought_kept b before one.shots round attackers one.keeps ∙ fought) in
-    let same_volley : second_volley b before round ≡ volley (map (found b one.shots round planet) (alive b one.shots round planet)) (map (found b one.shots round attackers) (alive b one.shots round attackers)) (stream_at b one.shots) =
-    ap (λ cs. volley cs (map (found b before round attackers) (alive b before round attackers)) (first_volley b before round).stream) one.targets
-    ∙ ap (λ cs. volley (map (found b one.shots round planet) (alive b one.shots round planet)) cs (first_volley b before round).stream) (sym (own_kept b before one.shots round attackers one.keeps))
-    ∙ ap (volley (map (found b one.shots round planet) (alive b one.shots round planet)) (map (found b one.shots round attackers) (alive b one.shots round attackers))) one.stream in
+    let same_volley : second_volley b before round ≡ after_volley (map (found b one.shots round planet) (alive b one.shots round planet)) (map (found b one.shots round attackers) (alive b one.shots round attackers)) (stream_at b one.shots) =
+    ap (λ cs. after_volley cs (map (found b before round attackers) (alive b before round attackers)) (first_volley b before round).stream) one.targets
+    ∙ ap (λ cs. after_volley (map (found b one.shots round planet) (alive b one.shots round planet)) cs (first_volley b before round).stream) (sym (own_kept b before one.shots round attackers one.keeps))
+    ∙ ap (after_volley (map (found b one.shots round planet) (alive b one.shots round planet)) (map (found b one.shots round attackers) (alive b one.shots round attackers))) one.stream in
     record {
       shots = two.shots;
       reached = half_reached b two.shots (make round planet (length b.planet)) (make (round + 1) attackers 0) refl (omega arith) refl two.reached;
@@ -210,41 +210,41 @@ both_volleys b before round reached fought =
     }
 
 -- whether a round was fought is not changed by later shots
-fought_as_before : (b : Battle) (before shots : List Shot) (r : ℕ) → ((p : Party) → alive b shots r p ≡ alive b before r p) → is_fought b shots r ≡ is_fought b before r
+fought_as_before : (b : Battle) (before shots : List Shot) (r : ℕ) → ((p : Party) → alive b shots r p ≡ alive b before r p) → is_round_fought b shots r ≡ is_round_fought b before r
 fought_as_before b before shots r kept = rw (kept attackers) (rw (kept planet) refl)
 
 -- one round more
-round_more : (b : Battle) (shots : List Shot) (round : ℕ) (field : Field) → AtRound b shots round field → both_stand field ≡ true → round ≤ 6 → (later : List Shot) × AtRound b later (round + 1) (round_after field)
+round_more : (b : Battle) (shots : List Shot) (round : ℕ) (field : Field) → AtRound b shots round field → both_stand field ≡ true → round ≤ 6 → (later : List Shot) × AtRound b later (round + 1) (after_round field)
 round_more b shots round field at both most = (after.shots, next)
   where
-    fought : is_fought b shots round ≡ true
+    fought : is_round_fought b shots round ≡ true
     fought = round_fought b shots round field at both most
 
     after : AfterBoth b shots round (first_volley b shots round) (second_volley b shots round)
     after = both_volleys b shots round at.reached fought
 
     first : Volley
-    first = volley field.attackers field.planet field.stream
+    first = after_volley field.attackers field.planet field.stream
 
     first_is : first ≡ first_volley b shots round
     first_is =
-        ap (λ cs. volley cs field.planet field.stream) at.attackers_are
-        ∙ ap (λ cs. volley (map (found b shots round attackers) (alive b shots round attackers)) cs field.stream) at.planet_is
-        ∙ ap (volley (map (found b shots round attackers) (alive b shots round attackers)) (map (found b shots round planet) (alive b shots round planet))) at.stream_is
+        ap (λ cs. after_volley cs field.planet field.stream) at.attackers_are
+        ∙ ap (λ cs. after_volley (map (found b shots round attackers) (alive b shots round attackers)) cs field.stream) at.planet_is
+        ∙ ap (after_volley (map (found b shots round attackers) (alive b shots round attackers)) (map (found b shots round planet) (alive b shots round planet))) at.stream_is
 
-    second_is : volley first.targets field.attackers first.stream ≡ second_volley b shots round
+    second_is : after_volley first.targets field.attackers first.stream ≡ second_volley b shots round
     second_is =
-        ap (λ (v : Volley). volley v.targets field.attackers v.stream) first_is
-        ∙ ap (λ cs. volley (first_volley b shots round).targets cs (first_volley b shots round).stream) at.attackers_are
+        ap (λ (v : Volley). after_volley v.targets field.attackers v.stream) first_is
+        ∙ ap (λ cs. after_volley (first_volley b shots round).targets cs (first_volley b shots round).stream) at.attackers_are
 
-    was_fought : (r : ℕ) → 1 ≤ r → r < round + 1 → is_fought b after.shots r ≡ true
+    was_fought : (r : ℕ) → 1 ≤ r → r < round + 1 → is_round_fought b after.shots r ≡ true
     was_fought r from below = fought_as_before b shots after.shots r (λ p. after.kept r p (omega (arith, below))) ∙ earlier r from below (cases_lt r round)
       where
-        earlier : (r : ℕ) → 1 ≤ r → r < round + 1 → (r < round) ⊎ (round ≤ r) → is_fought b shots r ≡ true
+        earlier : (r : ℕ) → 1 ≤ r → r < round + 1 → (r < round) ⊎ (round ≤ r) → is_round_fought b shots r ≡ true
         earlier r from below (inl less) = at.fought r from less
-        earlier r from below (inr least) = let same : round ≡ r = omega (arith, below, least) in subst (λ q. is_fought b shots q ≡ true) same fought
+        earlier r from below (inr least) = let same : round ≡ r = omega (arith, below, least) in subst (λ q. is_round_fought b shots q ≡ true) same fought
 
-    next : AtRound b after.shots (round + 1) (round_after field)
+    next : AtRound b after.shots (round + 1) (after_round field)
     next =
         record {
           reached = after.reached;
@@ -299,17 +299,17 @@ battle_over b shots round field at most over =
       planet_left = left_are planet ∙ ap fighters_of (sym at.planet_is);
     }
   where
-    no_more : (r : ℕ) → round ≤ r → is_fought b shots r ≡ false
+    no_more : (r : ℕ) → round ≤ r → is_round_fought b shots r ≡ false
     no_more r late = either over
       where
         count_is : (party : Party) (cs : List Combatant) → cs ≡ map (found b shots round party) (alive b shots round party) → length (alive b shots r party) ≡ length cs
         count_is party cs cs_are = ap length (alive_later b shots round r party late at.reached.past) ∙ sym (ap length cs_are ∙ length-map (alive b shots round party) (found b shots round party))
 
-        either : (both_stand field ≡ false) ⊎ (round ≡ 7) → is_fought b shots r ≡ false
+        either : (both_stand field ≡ false) ⊎ (round ≡ 7) → is_round_fought b shots r ≡ false
         either (inr seven) = and_left _ _ (and_left _ _ (and_right (nat_le 1 r) (nat_le r 6) (lt-leb r 6 (omega (arith, seven, late)))))
         either (inl none) = one (and_cases (nat_lt 0 (length field.attackers)) (nat_lt 0 (length field.planet)) none)
           where
-            one : (nat_lt 0 (length field.attackers) ≡ false) ⊎ (nat_lt 0 (length field.planet) ≡ false) → is_fought b shots r ≡ false
+            one : (nat_lt 0 (length field.attackers) ≡ false) ⊎ (nat_lt 0 (length field.planet) ≡ false) → is_round_fought b shots r ≡ false
             one (inl gone) = and_left _ _ (and_right (nat_le 1 r && nat_le r 6) _ (ap (nat_lt 0) (count_is attackers field.attackers at.attackers_are) ∙ gone))
             one (inr gone) = and_right _ _ (ap (nat_lt 0) (count_is planet field.planet at.planet_is) ∙ gone)
 
@@ -321,19 +321,19 @@ battle_over b shots round field at most over =
     counted =
         let some = at.rounds_are in
         let six : 6 ≡ field.rounds + (6 - field.rounds) = omega (arith, some, most) in
-        ap (λ n. count_by (is_fought b shots) (range_with_len 1 n)) six
-        ∙ count_front (is_fought b shots) 1 field.rounds (6 - field.rounds) (λ r from below. at.fought r from (omega (arith, below, some))) (λ r least. no_more r (omega (arith, least, some)))
+        ap (λ n. count_by (is_round_fought b shots) (range_with_len 1 n)) six
+        ∙ count_front (is_round_fought b shots) 1 field.rounds (6 - field.rounds) (λ r from below. at.fought r from (omega (arith, below, some))) (λ r least. no_more r (omega (arith, least, some)))
 
     left_are : (party : Party) → left b shots party ≡ fighters_of (map (found b shots round party) (alive b shots round party))
     left_are party = ap (map (unit_at b party)) (alive_later b shots round 7 party most at.reached.past) ∙ sym (map_twice _ (found b shots round party) (alive b shots round party))
 
-pub rounds_end : (most : ℕ) (b : Battle) (shots : List Shot) (round : ℕ) (field : Field) → AtRound b shots round field → most + round ≡ 7 → Ends b (rounds_after most field)
-unfolding rounds_after
+pub rounds_end : (most : ℕ) (b : Battle) (shots : List Shot) (round : ℕ) (field : Field) → AtRound b shots round field → most + round ≡ 7 → Ends b (after_rounds most field)
+unfolding after_rounds
 rounds_end zero b shots round field at all = battle_over b shots round field at (omega (arith, all)) (inr (omega (arith, all)))
 rounds_end (suc most) b shots round field at all =
-    either (both_stand field) refl (λ both. (let later = round_more b shots round field at both (omega (arith, all)) in rounds_end most b later.0 (round + 1) (round_after field) later.1 (omega (arith, all))))
+    either (both_stand field) refl (λ both. (let later = round_more b shots round field at both (omega (arith, all)) in rounds_end most b later.0 (round + 1) (after_round field) later.1 (omega (arith, all))))
   where
-    either : (both : Bool) → both_stand field ≡ both → (both_stand field ≡ true → Ends b (rounds_after most (round_after field))) → Ends b (cond both (rounds_after most (round_after field)) field)
+    either : (both : Bool) → both_stand field ≡ both → (both_stand field ≡ true → Ends b (after_rounds most (after_round field))) → Ends b (cond both (after_rounds most (after_round field)) field)
     either true both later = later both
     either false none later = battle_over b shots round field at (omega (arith, all)) (inl none)
 
@@ -378,7 +378,7 @@ begins b =
     no_round : (r : ℕ) → 1 ≤ r → r < 1 → ⊥
     no_round r from below = omega (arith, from, below)
 
-    not_yet : (u : Turn) → half u < half (make 1 attackers 0) → is_fought b [] u.round ≡ false
+    not_yet : (u : Turn) → half u < half (make 1 attackers 0) → is_round_fought b [] u.round ≡ false
     not_yet u less = rw (lt-leb 1 u.round (omega (arith, less))) refl
 
 pub course_ends : (b : Battle) → Ends b (course b)

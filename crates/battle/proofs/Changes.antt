@@ -14,7 +14,7 @@ changed_more f xs i d y within e =
 pub changed_all : {X : Type 0} (f : X → X) (xs : List X) (i : ℕ) → length xs ≤ i → xs ≡ take i xs ++ map f (drop i xs)
 changed_all f xs i all = rw (take_all i xs all, drop_all i xs all, append-nil) refl
 
--- the same where the change of an element depends on its place
+-- the same, if the change of an element depends on its place
 pub placed_more : {X : Type 0} (f : ℕ → X → X) (xs : List X) (i : ℕ) (d y : X) → i < length xs → y ≡ f i (get_or xs i d)
     → take (i + 1) (set xs i y) ++ map (λ placed. f placed.0 placed.1) (enumerate_from (i + 1) (drop (i + 1) (set xs i y)))
     ≡ take i xs ++ map (λ placed. f placed.0 placed.1) (enumerate_from i (drop i xs))

@@ -8,11 +8,11 @@ use Rattle.std.proofs.lemmas.List.Sums.{sum_by-cons}
 use Rattle.battle.proofs.Opening.{make, same_turn}
 use Rattle.battle.proofs.LegalShots.{count_at, stream_at, targets_at}
 use Rattle.battle.proofs.Salvo.{AfterTurn, Fired, Keeps, keeps_then, salvo_fires}
-use Rattle.battle.specs.Course.{Volley, salvo, turn, volley}
+use Rattle.battle.specs.Course.{Volley, after_salvo, after_turn, after_volley}
 use Rattle.battle.specs.Shots.{Shot, alive, found, is_alive, unit_at}
 use Rattle.battle.specs.Sides.{Battle, Party, attackers, planet, units}
 use Rattle.battle.specs.Trace.{AreLegalAfter}
-use Rattle.battle.specs.Turns.{Turn, half, has_fired, is_before, is_fought, is_open, is_same, turn_of}
+use Rattle.battle.specs.Turns.{Turn, half, has_fired, is_before, is_round_fought, is_open, is_same, turn_of}
 use Rattle.battle.specs.declared.combatant.Combatant.{Combatant}
 
 -- shots that were fired before a turn: they are legal, no turn before it is open, and all of them come before it
@@ -109,27 +109,27 @@ pub record AfterVolley (b : Battle) (before : List Shot) (last : Turn) (result :
 -- a unit that is not alive, or has no attack, has no turn
 dead_closed : (b : Battle) (shots : List Shot) (t : Turn) → is_alive shots t.round t.party t.place ≡ false → is_open b shots t ≡ false
 dead_closed b shots t dead =
-    and_left _ (not (has_fired shots t)) (and_left _ (nat_lt 0 (unit_at b t.party t.place).attack) (and_right (is_fought b shots t.round && nat_lt t.place (length (units b t.party))) (is_alive shots t.round t.party t.place) dead))
+    and_left _ (not (has_fired shots t)) (and_left _ (nat_lt 0 (unit_at b t.party t.place).attack) (and_right (is_round_fought b shots t.round && nat_lt t.place (length (units b t.party))) (is_alive shots t.round t.party t.place) dead))
 
 unarmed_closed : (b : Battle) (shots : List Shot) (t : Turn) → nat_lt 0 (unit_at b t.party t.place).attack ≡ false → is_open b shots t ≡ false
 unarmed_closed b shots t unarmed =
-    and_left _ (not (has_fired shots t)) (and_right (is_fought b shots t.round && nat_lt t.place (length (units b t.party)) && is_alive shots t.round t.party t.place) _ unarmed)
+    and_left _ (not (has_fired shots t)) (and_right (is_round_fought b shots t.round && nat_lt t.place (length (units b t.party)) && is_alive shots t.round t.party t.place) _ unarmed)
 
 -- a unit that is alive and armed is to fire when its turn is reached
-armed_open : (b : Battle) (shots : List Shot) (t : Turn) → Reached b shots t → is_fought b shots t.round ≡ true → t.place < length (units b t.party) → is_alive shots t.round t.party t.place ≡ true
+armed_open : (b : Battle) (shots : List Shot) (t : Turn) → Reached b shots t → is_round_fought b shots t.round ≡ true → t.place < length (units b t.party) → is_alive shots t.round t.party t.place ≡ true
     → nat_lt 0 (unit_at b t.party t.place).attack ≡ true → is_open b shots t ≡ true
 armed_open b shots t reached fought within alive armed =
     rw fought (rw (lt-ltb t.place (length (units b t.party)) within) (rw alive (rw armed (rw (none_fired t shots reached.past) refl))))
 
 -- one turn
-turn_taken : (b : Battle) (before shots : List Shot) (t : Turn) → Reached b shots t → Keeps b before shots t.round t.party → is_fought b shots t.round ≡ true → t.place < length (units b t.party)
-    → is_alive shots t.round t.party t.place ≡ true → AfterVolley b before (next_place t) (turn (unit_at b t.party t.place) (targets_at b shots t) (stream_at b shots))
+turn_taken : (b : Battle) (before shots : List Shot) (t : Turn) → Reached b shots t → Keeps b before shots t.round t.party → is_round_fought b shots t.round ≡ true → t.place < length (units b t.party)
+    → is_alive shots t.round t.party t.place ≡ true → AfterVolley b before (next_place t) (after_turn (unit_at b t.party t.place) (targets_at b shots t) (stream_at b shots))
 turn_taken b before shots t reached keeps fought within alive = either (nat_lt 0 (unit_at b t.party t.place).attack) refl
   where
-    fires : is_open b shots t ≡ true → AfterVolley b before (next_place t) (salvo 4096 1 (unit_at b t.party t.place) (targets_at b shots t) (stream_at b shots))
+    fires : is_open b shots t ≡ true → AfterVolley b before (next_place t) (after_salvo 4096 1 (unit_at b t.party t.place) (targets_at b shots t) (stream_at b shots))
     fires open_now =
         let first : count_at shots t ≡ 1 = ap (λ n. 1 + n) (none_counted t shots reached.past) in
-        let after = subst (λ n. AfterTurn b shots t (salvo 4096 n (unit_at b t.party t.place) (targets_at b shots t) (stream_at b shots))) first
+        let after = subst (λ n. AfterTurn b shots t (after_salvo 4096 n (unit_at b t.party t.place) (targets_at b shots t) (stream_at b shots))) first
         (salvo_fires 4096 b shots t (fired_none b shots t reached) open_now (omega (arith, first)) (omega (arith, first))) in
         record {
           shots = after.shots;
@@ -140,7 +140,7 @@ turn_taken b before shots t reached keeps fought within alive = either (nat_lt 0
         }
 
     either : (armed : Bool) → nat_lt 0 (unit_at b t.party t.place).attack ≡ armed
-        → AfterVolley b before (next_place t) (cond armed (salvo 4096 1 (unit_at b t.party t.place) (targets_at b shots t) (stream_at b shots)) (record { targets = targets_at b shots t; stream = stream_at b shots }))
+        → AfterVolley b before (next_place t) (cond armed (after_salvo 4096 1 (unit_at b t.party t.place) (targets_at b shots t) (stream_at b shots)) (record { targets = targets_at b shots t; stream = stream_at b shots }))
     either true armed = fires (armed_open b shots t reached fought within alive armed)
     either false unarmed = record { shots = shots; reached = reached_over b shots t reached (unarmed_closed b shots t unarmed); keeps = keeps; targets = refl; stream = refl }
 
@@ -149,14 +149,14 @@ abbrev pub shooters_from : Battle → List Shot → Turn → ℕ → List Combat
 shooters_from b before t count = map (found b before t.round t.party) (filter (is_alive before t.round t.party) (range_with_len t.place count))
 
 -- whether a round is fought stays as it was at its start
-pub fought_kept : (b : Battle) (before shots : List Shot) (round : ℕ) (party : Party) → Keeps b before shots round party → is_fought b shots round ≡ is_fought b before round
+pub fought_kept : (b : Battle) (before shots : List Shot) (round : ℕ) (party : Party) → Keeps b before shots round party → is_round_fought b shots round ≡ is_round_fought b before round
 fought_kept b before shots round party keeps =
     rw (keeps.alive round attackers (omega arith)) (rw (keeps.alive round planet (omega arith)) refl)
 
 pub volley_fires : (count : ℕ) (b : Battle) (before shots : List Shot) (t last : Turn) → last ≡ make t.round t.party (t.place + count) → last.place ≡ length (units b t.party)
-    → Reached b shots t → Keeps b before shots t.round t.party → is_fought b before t.round ≡ true
-    → AfterVolley b before last (volley (shooters_from b before t count) (targets_at b shots t) (stream_at b shots))
-unfolding volley
+    → Reached b shots t → Keeps b before shots t.round t.party → is_round_fought b before t.round ≡ true
+    → AfterVolley b before last (after_volley (shooters_from b before t count) (targets_at b shots t) (stream_at b shots))
+unfolding after_volley
 volley_fires zero b before shots t last is_last all reached keeps fought =
     subst (λ l. AfterVolley b before l (record { targets = targets_at b shots t; stream = stream_at b shots })) (ap (make t.round t.party) (omega arith) ∙ sym is_last)
     (record { shots = shots; reached = reached; keeps = keeps; targets = refl; stream = refl })
@@ -170,13 +170,13 @@ volley_fires (suc count) b before shots t last is_last all reached keeps fought 
     within : t.place < length (units b t.party)
     within = let same : last.place ≡ t.place + suc count = ap (λ (l : Turn). l.place) is_last in omega (arith, same, all)
 
-    fought_now : is_fought b shots t.round ≡ true
+    fought_now : is_round_fought b shots t.round ≡ true
     fought_now = fought_kept b before shots t.round t.party keeps ∙ fought
 
     either : (alive : Bool) → is_alive before t.round t.party t.place ≡ alive
-        → ((later : List Shot) → Reached b later (next_place t) → Keeps b before later t.round t.party → AfterVolley b before last (volley (shooters_from b before (next_place t) count) (targets_at b later t) (stream_at b later)))
+        → ((later : List Shot) → Reached b later (next_place t) → Keeps b before later t.round t.party → AfterVolley b before last (after_volley (shooters_from b before (next_place t) count) (targets_at b later t) (stream_at b later)))
         → AfterVolley b before last
-        (volley
+        (after_volley
         (map (found b before t.round t.party) (cond alive (t.place ∷ filter (is_alive before t.round t.party) (range_with_len (t.place + 1) count)) (filter (is_alive before t.round t.party) (range_with_len (t.place + 1) count))))
         (targets_at b shots t)
         (stream_at b shots))
@@ -184,6 +184,6 @@ volley_fires (suc count) b before shots t last is_last all reached keeps fought 
     either true living rest =
         let one = turn_taken b before shots t reached keeps fought_now within (keeps.each t.round t.party t.place (omega arith) ∙ living) in
         let others = shooters_from b before (next_place t) count in
-        let next = turn (unit_at b t.party t.place) (targets_at b shots t) (stream_at b shots) in
-        subst (λ targets. AfterVolley b before last (volley others targets next.stream)) (sym one.targets)
-        (subst (λ stream. AfterVolley b before last (volley others (targets_at b one.shots t) stream)) (sym one.stream) (rest one.shots one.reached one.keeps))
+        let next = after_turn (unit_at b t.party t.place) (targets_at b shots t) (stream_at b shots) in
+        subst (λ targets. AfterVolley b before last (after_volley others targets next.stream)) (sym one.targets)
+        (subst (λ stream. AfterVolley b before last (after_volley others (targets_at b one.shots t) stream)) (sym one.stream) (rest one.shots one.reached one.keeps))

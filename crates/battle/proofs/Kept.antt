@@ -135,7 +135,7 @@ parts_are all from (p ∷ parts) (first, long) same =
 pub all_kept : (parts : List Part) → AllByRecursion (λ p. length p.n ≡ 22) parts → survivors (fighters parts) parts ≡ parts
 all_kept parts long = parts_are (fighters parts) 0 parts long (λ part kind least. refl)
 
--- fewer elements are counted where some are left out
+-- fewer elements are counted if some are left out
 count_fewer : {X : Type 0} (g : ℕ → X) (test : X → Bool) (keep : ℕ → Bool) (places : List ℕ) → count_by test (map g (filter keep places)) ≤ count_by test (map g places)
 count_fewer g test keep [] = omega arith
 count_fewer g test keep (place ∷ places) = either (keep place) (count_fewer g test keep places)

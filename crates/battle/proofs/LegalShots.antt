@@ -9,7 +9,7 @@ use Rattle.draws.proofs.Words.{draw_below, word_at_fits}
 use Rattle.battle.proofs.Added.{at_target, drawn_more, found_kept, found_struck, not_at_other}
 use Rattle.battle.proofs.Places.{map_set, rise_filter}
 use Rattle.battle.proofs.Streams.{after_more, word_more}
-use Rattle.battle.specs.Course.{goes_on, place_drawn, shot, struck, target_drawn, unhurt}
+use Rattle.battle.specs.Course.{goes_on, place_drawn, after_shot, struck, target_drawn, unhurt}
 use Rattle.battle.specs.Rules.{destroys, fires_again, hull_loss, is_rapid, is_weak, shield_loss}
 use Rattle.battle.specs.Shots.{Shot, alive, drawn, found, is_alive, nobody, unit_at}
 use Rattle.battle.specs.Sides.{Battle, enemy, units}
@@ -79,9 +79,9 @@ unfolding shot_at
 goes_on_is b before t some =
     rw (target_is b before t some) (ap (fires_again (unit_at b t.party t.place).kind (aimed_at b before t).fighter.kind (count_at before t)) (word_more _ (drawn before) b.stream))
 
--- where the stream stands
+-- the place at which the stream stands
 pub stream_is : (b : Battle) (before : List Shot) (t : Turn) → 0 < length (alive b before t.round (enemy t.party))
-    → (shot (count_at before t) (unit_at b t.party t.place) (targets_at b before t) (stream_at b before)).stream ≡ stream_at b (before ++ shot_at b before t ∷ [])
+    → (after_shot (count_at before t) (unit_at b t.party t.place) (targets_at b before t) (stream_at b before)).stream ≡ stream_at b (before ++ shot_at b before t ∷ [])
 unfolding shot_at
 stream_is b before t some =
     rw (target_is b before t some)
@@ -96,7 +96,7 @@ target_after b before t = found_struck b before (shot_at b before t) (enemy t.pa
 
 -- what the targets have become
 pub targets_are : (b : Battle) (before : List Shot) (t : Turn) → 0 < length (alive b before t.round (enemy t.party))
-    → (shot (count_at before t) (unit_at b t.party t.place) (targets_at b before t) (stream_at b before)).targets
+    → (after_shot (count_at before t) (unit_at b t.party t.place) (targets_at b before t) (stream_at b before)).targets
     ≡ map (found b (before ++ shot_at b before t ∷ []) t.round (enemy t.party)) (alive b before t.round (enemy t.party))
 unfolding shot_at
 targets_are b before t some =

@@ -10,6 +10,7 @@ pub mod OneTrace
 pub mod Kept
 pub mod Again
 pub mod Fought
+pub mod CourseEnds
 pub mod Strengths
 pub mod OneShot
 pub mod Volleys
@@ -17,5 +18,4 @@ pub mod Musters
 pub mod RoundByRound
 pub mod Changes
 pub mod Counts
-pub mod Ends
 pub mod UnitCounts

@@ -6,7 +6,7 @@ use Rattle.rand_pcg.specs.Pcg.{pcg32}
 use Rattle.draws.specs.Draws.{after, draw, word_at}
 use Rattle.battle.specs.declared.combatant.Combatant.{Combatant}
 use Rattle.battle.specs.declared.fighter.Fighter.{Fighter}
-use Rattle.battle.specs.Course.{goes_on, place_drawn, shot, struck, target_drawn, unhurt, weak_words}
+use Rattle.battle.specs.Course.{goes_on, place_drawn, after_shot, struck, target_drawn, unhurt, weak_words}
 use Rattle.battle.specs.Rules.{fires_again, is_rapid, is_weak}
 use Rattle.battle.specs.Shots.{nobody}
 use Rattle.battle.specs.Trace.{one_if}
@@ -49,7 +49,7 @@ word_last stream fired k h =
 -- the targets after the shot
 pub shot_targets : (count : ℕ) (f : Fighter) (targets : List Combatant) (stream : Lcg) (place : ℕ) (met : Combatant) (drawn fired last : Lcg) (hit : Combatant) (again : Bool)
     → AreSteps count f targets stream place met drawn fired last hit again
-    → slice_set targets place hit ≡ (shot count f targets stream).targets
+    → slice_set targets place hit ≡ (after_shot count f targets stream).targets
 shot_targets count f targets stream place met drawn fired last hit again s =
     ap (λ (h : Combatant). slice_set targets place h) s.hit_is
     ∙ ap (λ (w : ℕ). slice_set targets place (struck f.attack w met)) (word_one stream drawn s.drawn_is)
@@ -68,7 +68,7 @@ shot_again count f targets stream place met drawn fired last hit again s =
 -- the stream after the shot
 pub shot_stream : (count : ℕ) (f : Fighter) (targets : List Combatant) (stream : Lcg) (place : ℕ) (met : Combatant) (drawn fired last : Lcg) (hit : Combatant) (again : Bool)
     → AreSteps count f targets stream place met drawn fired last hit again
-    → last ≡ (shot count f targets stream).stream
+    → last ≡ (after_shot count f targets stream).stream
 shot_stream count f targets stream place met drawn fired last hit again s =
     s.last_is
     ∙ ap (λ (at : Lcg). after (one_if (is_rapid f.kind met.fighter.kind count)) at) (fired_same stream drawn fired (weak_words f met) s.drawn_is s.fired_is)

@@ -5,9 +5,9 @@ use Rattle.std.proofs.lemmas.Bool.{both_ways, cases_order, eq-eqb, lt-ltb}
 use Rattle.battle.proofs.Added.{alive_kept, any_more, is_alive_kept}
 use Rattle.battle.specs.Shots.{Shot, is_alive, rank, unit_at}
 use Rattle.battle.specs.Sides.{Battle, Party, attackers, planet, units}
-use Rattle.battle.specs.Turns.{Turn, IsNext, half, has_fired, is_before, is_fought, is_open, is_same, turn_of}
+use Rattle.battle.specs.Turns.{Turn, IsNext, half, has_fired, is_before, is_round_fought, is_open, is_same, turn_of}
 
--- a shot ends a turn where it is a shot of that turn and does not let fire again
+-- a shot ends a turn if it is a shot of that turn and does not let the unit fire again
 abbrev pub ends : Shot → Turn → Bool
 ends s u = is_same (turn_of s) u && not s.again
 
@@ -26,7 +26,7 @@ open_after b shots s u late =
     (rw (alive_kept b shots s u.round planet late)
     (rw (is_alive_kept shots s u.round u.party u.place late)
     (rw (any_more (λ t. is_same (turn_of t) u && not t.again) shots s)
-    (spread (is_fought b shots u.round) (nat_lt u.place (length (units b u.party))) (is_alive shots u.round u.party u.place) (nat_lt 0 (unit_at b u.party u.place).attack) (has_fired shots u) (ends s u)))))
+    (spread (is_round_fought b shots u.round) (nat_lt u.place (length (units b u.party))) (is_alive shots u.round u.party u.place) (nat_lt 0 (unit_at b u.party u.place).attack) (has_fired shots u) (ends s u)))))
 
 -- a half of a round tells its side
 pub same_round : (t u : Turn) → half t ≡ half u → t.round ≡ u.round

@@ -6,11 +6,11 @@ use Rattle.std.proofs.lemmas.Bool.{and_parts, eq-eqb, eqb-true, ltb-true, or_cas
 use Rattle.battle.proofs.Added.{alive_kept, found_kept, is_alive_kept, not_at_own, sum_more}
 use Rattle.battle.proofs.Opening.{open_after}
 use Rattle.battle.proofs.LegalShots.{count_at, goes_on_is, legal_shot, shot_at, stream_at, stream_is, targets_are, targets_at}
-use Rattle.battle.specs.Course.{Volley, salvo, shot}
+use Rattle.battle.specs.Course.{Volley, after_salvo, after_shot}
 use Rattle.battle.specs.Shots.{Shot, alive, found, is_alive, rank, unit_at}
 use Rattle.battle.specs.Sides.{Battle, Party, attackers, planet, enemy, units}
 use Rattle.battle.specs.Trace.{AreLegalAfter, IsLegalAfter}
-use Rattle.battle.specs.Turns.{Turn, half, has_fired, is_before, is_fought, is_open, is_same, turn_of}
+use Rattle.battle.specs.Turns.{Turn, half, has_fired, is_before, is_round_fought, is_open, is_same, turn_of}
 
 -- a legal trace with one legal shot more
 pub legal_more : (b : Battle) (before shots : List Shot) (s : Shot) → AreLegalAfter b before shots → IsLegalAfter b (before ++ shots) s → AreLegalAfter b before (shots ++ s ∷ [])
@@ -91,17 +91,17 @@ unfolding shot_at
 open_as_long b shots t open_now = open_after b shots (shot_at b shots t) t (omega arith) ∙ rw open_now (rw (same_itself t) (not_twice (shot_at b shots t).again))
 
 -- what a unit's turn leaves: its shots were added, and its turn is over
-pub record AfterTurn (b : Battle) (before : List Shot) (t : Turn) (volley : Volley) : Type 0 where
+pub record AfterTurn (b : Battle) (before : List Shot) (t : Turn) (after_volley : Volley) : Type 0 where
   pub shots : List Shot
   pub fired : Fired b shots t
   pub over : is_open b shots t ≡ false
   pub keeps : Keeps b before shots t.round t.party
-  pub targets : volley.targets ≡ targets_at b shots t
-  pub stream : volley.stream ≡ stream_at b shots
+  pub targets : after_volley.targets ≡ targets_at b shots t
+  pub stream : after_volley.stream ≡ stream_at b shots
 
 -- all that makes a turn open
 pub record Opens (b : Battle) (shots : List Shot) (t : Turn) : Type 0 where
-  pub fought : is_fought b shots t.round ≡ true
+  pub fought : is_round_fought b shots t.round ≡ true
   pub within : nat_lt t.place (length (units b t.party)) ≡ true
   pub alive : is_alive shots t.round t.party t.place ≡ true
   pub armed : nat_lt 0 (unit_at b t.party t.place).attack ≡ true
@@ -116,7 +116,7 @@ opens b shots t open_now =
     record { fought = one.0; within = one.1; alive = two.1; armed = three.1; ready = four.1 }
 
 -- a round that is fought has units on both sides
-pub both_alive : (b : Battle) (shots : List Shot) (round : ℕ) (party : Party) → is_fought b shots round ≡ true → 0 < length (alive b shots round party)
+pub both_alive : (b : Battle) (shots : List Shot) (round : ℕ) (party : Party) → is_round_fought b shots round ≡ true → 0 < length (alive b shots round party)
 both_alive b shots round party fought = side party
   where
     second : (nat_lt 0 (length (alive b shots round planet)) ≡ true)
@@ -145,7 +145,7 @@ count_more b before t =
 
 -- the targets after the shot, as the next shot finds them
 targets_next : (b : Battle) (before : List Shot) (t : Turn) → is_open b before t ≡ true
-    → (shot (count_at before t) (unit_at b t.party t.place) (targets_at b before t) (stream_at b before)).targets ≡ targets_at b (before ++ shot_at b before t ∷ []) t
+    → (after_shot (count_at before t) (unit_at b t.party t.place) (targets_at b before t) (stream_at b before)).targets ≡ targets_at b (before ++ shot_at b before t ∷ []) t
 unfolding shot_at
 targets_next b before t open_now =
     targets_are b before t (some_enemies b before t open_now)
@@ -162,24 +162,24 @@ shot_keeps b before t = keeps_shot b before (shot_at b before t)
 
 -- one shot, and the others if there are
 salvo_step : (most : ℕ) (b : Battle) (before : List Shot) (t : Turn) → is_open b before t ≡ true
-    → salvo (suc most) (count_at before t) (unit_at b t.party t.place) (targets_at b before t) (stream_at b before)
+    → after_salvo (suc most) (count_at before t) (unit_at b t.party t.place) (targets_at b before t) (stream_at b before)
     ≡ cond (shot_at b before t).again
-    (salvo most (count_at before t + 1) (unit_at b t.party t.place) (targets_at b (before ++ shot_at b before t ∷ []) t) (stream_at b (before ++ shot_at b before t ∷ [])))
+    (after_salvo most (count_at before t + 1) (unit_at b t.party t.place) (targets_at b (before ++ shot_at b before t ∷ []) t) (stream_at b (before ++ shot_at b before t ∷ [])))
     (record { targets = targets_at b (before ++ shot_at b before t ∷ []) t; stream = stream_at b (before ++ shot_at b before t ∷ []) })
-unfolding salvo
+unfolding after_salvo
 salvo_step most b before t open_now =
     let some = some_enemies b before t open_now in
     rw (goes_on_is b before t some) (rw (targets_next b before t open_now) (rw (stream_is b before t some) refl))
 
 pub salvo_fires : (most : ℕ) (b : Battle) (before : List Shot) (t : Turn) → Fired b before t → is_open b before t ≡ true → most + count_at before t ≡ 4097 → count_at before t ≤ 4096
-    → AfterTurn b before t (salvo most (count_at before t) (unit_at b t.party t.place) (targets_at b before t) (stream_at b before))
+    → AfterTurn b before t (after_salvo most (count_at before t) (unit_at b t.party t.place) (targets_at b before t) (stream_at b before))
 salvo_fires zero b before t fired open_now all within = elim (too_many (count_at before t) all within) [ ]
   where
     too_many : (n : ℕ) → 0 + n ≡ 4097 → n ≤ 4096 → ⊥
     too_many n all within = omega (arith, all, within)
 salvo_fires (suc most) b before t fired open_now all within =
     subst (AfterTurn b before t) (sym (salvo_step most b before t open_now)) (either (shot_at b before t).again refl
-    (λ again. subst (λ n. AfterTurn b next t (salvo most n (unit_at b t.party t.place) (targets_at b next t) (stream_at b next))) (count_more b before t)
+    (λ again. subst (λ n. AfterTurn b next t (after_salvo most n (unit_at b t.party t.place) (targets_at b next t) (stream_at b next))) (count_more b before t)
     (salvo_fires most b next t next_fired (open_as_long b before t open_now ∙ again) (omega (arith, all, count_more b before t)) (let fact = not_last b before t again in omega (arith, fact, count_more b before t)))))
   where
     next : List Shot
@@ -188,9 +188,9 @@ salvo_fires (suc most) b before t fired open_now all within =
     next_fired : Fired b next t
     next_fired = fired_more b before t fired open_now
 
-    either : (again : Bool) → (shot_at b before t).again ≡ again → ((shot_at b before t).again ≡ true → AfterTurn b next t (salvo most (count_at before t + 1) (unit_at b t.party t.place) (targets_at b next t) (stream_at b next)))
+    either : (again : Bool) → (shot_at b before t).again ≡ again → ((shot_at b before t).again ≡ true → AfterTurn b next t (after_salvo most (count_at before t + 1) (unit_at b t.party t.place) (targets_at b next t) (stream_at b next)))
         → AfterTurn b before t (cond again
-        (salvo most (count_at before t + 1) (unit_at b t.party t.place) (targets_at b next t) (stream_at b next))
+        (after_salvo most (count_at before t + 1) (unit_at b t.party t.place) (targets_at b next t) (stream_at b next))
         (record { targets = targets_at b next t; stream = stream_at b next }))
     either true again later =
         let rest = later again in

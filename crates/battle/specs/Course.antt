@@ -5,9 +5,10 @@ use Rattle.rand_pcg.specs.Lcg.{Lcg}
 use Rattle.draws.specs.Draws.{after, draw, word_at}
 use Rattle.battle.specs.declared.combatant.Combatant.{Combatant}
 use Rattle.battle.specs.declared.fighter.Fighter.{Fighter}
+use Rattle.battle.specs.declared.limits.TheConstants.{MOST_ROUNDS, MOST_SHOTS}
 use Rattle.battle.specs.declared.outcome.Outcome.{Outcome}
 use Rattle.battle.specs.Outcomes.{verdict_of}
-use Rattle.battle.specs.Sides.{Battle}
+use Rattle.battle.specs.Sides.{Battle, Party, attackers, planet}
 use Rattle.battle.specs.Rules.{destroys, fires_again, hull_left, is_rapid, is_weak, shield_loss}
 use Rattle.battle.specs.Shots.{nobody}
 use Rattle.battle.specs.Trace.{one_if}
@@ -20,7 +21,7 @@ with_full_shield c = record c { shield = c.fighter.shield }
 abbrev pub unhurt : Fighter → Combatant
 unhurt f = record { fighter = f; shield = f.shield; hull = f.hull; is_destroyed = false }
 
--- a unit after a shot at it, where this word decides over a weak hull
+-- a unit after a shot at it; if its hull is weak then, this word decides
 abbrev pub struck : ℕ → ℕ → Combatant → Combatant
 struck attack word target =
     record target {
@@ -47,8 +48,8 @@ abbrev pub weak_words : Fighter → Combatant → ℕ
 weak_words f target = one_if (is_weak f.attack target)
 
 -- after one shot of a unit, its `count`th of the round
-abbrev pub shot : ℕ → Fighter → List Combatant → Lcg → Volley
-shot count f targets stream =
+abbrev pub after_shot : ℕ → Fighter → List Combatant → Lcg → Volley
+after_shot count f targets stream =
     let target = target_drawn targets stream in
     record {
       targets = slice_set targets (place_drawn targets stream) (struck f.attack (word_at stream 1) target);
@@ -62,20 +63,20 @@ goes_on count f targets stream =
     fires_again f.kind target.fighter.kind count (word_at stream (1 + weak_words f target))
 
 -- after the shots of a unit, from its `count`th of the round on and at most `most`
-unfoldable pub salvo : ℕ → ℕ → Fighter → List Combatant → Lcg → Volley
-salvo zero count f targets stream = record { targets = targets; stream = stream }
-salvo (suc most) count f targets stream =
-    let next = shot count f targets stream in
-    if goes_on count f targets stream then salvo most (count + 1) f next.targets next.stream else next
+unfoldable pub after_salvo : ℕ → ℕ → Fighter → List Combatant → Lcg → Volley
+after_salvo zero count f targets stream = record { targets = targets; stream = stream }
+after_salvo (suc most) count f targets stream =
+    let next = after_shot count f targets stream in
+    if goes_on count f targets stream then after_salvo most (count + 1) f next.targets next.stream else next
 
 -- after a unit's turn: a unit of attack 0 does not fire
-abbrev pub turn : Fighter → List Combatant → Lcg → Volley
-turn f targets stream = if nat_lt 0 f.attack then salvo 4096 1 f targets stream else record { targets = targets; stream = stream }
+abbrev pub after_turn : Fighter → List Combatant → Lcg → Volley
+after_turn f targets stream = if nat_lt 0 f.attack then after_salvo MOST_SHOTS 1 f targets stream else record { targets = targets; stream = stream }
 
 -- after the turns of units, one after the other
-unfoldable pub volley : List Combatant → List Combatant → Lcg → Volley
-volley [] targets stream = record { targets = targets; stream = stream }
-volley (c ∷ cs) targets stream = let next = turn c.fighter targets stream in volley cs next.targets next.stream
+unfoldable pub after_volley : List Combatant → List Combatant → Lcg → Volley
+after_volley [] targets stream = record { targets = targets; stream = stream }
+after_volley (c ∷ cs) targets stream = let next = after_turn c.fighter targets stream in after_volley cs next.targets next.stream
 
 -- the units that still stand, for the next round
 abbrev pub standing : List Combatant → List Combatant
@@ -89,10 +90,10 @@ pub record Field : Type 0 where
   pub rounds : ℕ
 
 -- after one round more
-abbrev pub round_after : Field → Field
-round_after field =
-    let first = volley field.attackers field.planet field.stream in
-    let second = volley first.targets field.attackers first.stream in
+abbrev pub after_round : Field → Field
+after_round field =
+    let first = after_volley field.attackers field.planet field.stream in
+    let second = after_volley first.targets field.attackers first.stream in
     record {
       attackers = standing second.targets;
       planet = standing first.targets;
@@ -104,9 +105,9 @@ abbrev pub both_stand : Field → Bool
 both_stand field = nat_lt 0 (length field.attackers) && nat_lt 0 (length field.planet)
 
 -- after so many rounds more, as long as both sides stand
-unfoldable pub rounds_after : ℕ → Field → Field
-rounds_after zero field = field
-rounds_after (suc most) field = if both_stand field then rounds_after most (round_after field) else field
+unfoldable pub after_rounds : ℕ → Field → Field
+after_rounds zero field = field
+after_rounds (suc most) field = if both_stand field then after_rounds most (after_round field) else field
 
 -- a battle before its first round
 abbrev pub start_of : Battle → Field
@@ -114,12 +115,17 @@ start_of b = record { attackers = map unhurt b.attackers; planet = map unhurt b.
 
 -- a battle after its last round
 abbrev pub course : Battle → Field
-course b = rounds_after 6 (start_of b)
+course b = after_rounds MOST_ROUNDS (start_of b)
 
 -- how a battle ends by its course
 abbrev pub course_outcome : Field → Outcome
 course_outcome field =
     record { verdict = verdict_of (nat_lt 0 (length field.attackers)) (nat_lt 0 (length field.planet)); rounds = field.rounds }
+
+-- the combatants of one side
+abbrev pub combatants : Field → Party → List Combatant
+combatants field attackers = field.attackers
+combatants field planet = field.planet
 
 -- the units of combatants
 abbrev pub fighters_of : List Combatant → List Fighter

@@ -6,3 +6,4 @@ pub mod Trace
 pub mod Outcomes
 pub mod Course
 pub mod Places
+pub mod Ending

@@ -1,10 +1,11 @@
 -- What a trace leads to. Rule: docs/RULES.md, "The outcome of a battle".
-use Rattle.std.specs.Prelude.{ℕ, Bool, true, false, List, ◌≡◌, ◌==◌, ◌&&◌, length, map, nat_lt}
+use Rattle.std.specs.Prelude.{ℕ, Bool, true, false, List, ◌+◌, ◌≡◌, ◌==◌, ◌&&◌, length, map, nat_lt}
 use Rattle.std.specs.List.{count_by, enumerate_from, range_with_len}
 use Rattle.catalog.specs.Kinds.{kind_number}
 use Rattle.catalog.specs.declared.classes.TheConstants.{UNIT_KINDS}
 use Rattle.catalog.specs.declared.kind.Kind.{Kind}
 use Rattle.battle.specs.declared.fighter.Fighter.{Fighter}
+use Rattle.battle.specs.declared.limits.TheConstants.{MOST_ROUNDS}
 use Rattle.battle.specs.declared.outcome.Outcome.{Outcome}
 use Rattle.battle.specs.declared.outcome.Verdict.{Verdict}
 use Rattle.battle.specs.declared.outcome.Verdict.TheVariants.{Attackers, Planet, Draw}
@@ -12,15 +13,15 @@ use Rattle.battle.specs.declared.part.Part.{Part}
 use Rattle.battle.specs.Sides.{Battle, Party, attackers, planet, battle_of}
 use Rattle.battle.specs.Shots.{Shot, alive, unit_at}
 use Rattle.battle.specs.Trace.{IsTrace}
-use Rattle.battle.specs.Turns.{is_fought}
+use Rattle.battle.specs.Turns.{is_round_fought}
 
 -- the units of a side that are left after the last of six rounds
 abbrev pub left : Battle → List Shot → Party → List Fighter
-left b shots party = map (unit_at b party) (alive b shots 7 party)
+left b shots party = map (unit_at b party) (alive b shots (MOST_ROUNDS + 1) party)
 
 -- how many rounds were fought
 abbrev pub rounds : Battle → List Shot → ℕ
-rounds b shots = count_by (is_fought b shots) (range_with_len 1 6)
+rounds b shots = count_by (is_round_fought b shots) (range_with_len 1 MOST_ROUNDS)
 
 -- who has units left and the other none wins; all else is a draw
 abbrev pub verdict_of : Bool → Bool → Verdict

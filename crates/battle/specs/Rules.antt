@@ -4,12 +4,13 @@ use Rattle.catalog.specs.RapidFire.{rapid_of}
 use Rattle.catalog.specs.declared.kind.Kind.{Kind}
 use Rattle.draws.specs.Draws.{draw}
 use Rattle.battle.specs.declared.combatant.Combatant.{Combatant}
+use Rattle.battle.specs.declared.limits.TheConstants.{MOST_SHOTS}
 
--- a shot bounces off where its attack is below a hundredth of the target's full shield
+-- a shot bounces off if its attack is below a hundredth of the target's full shield
 abbrev pub bounces : ℕ → Combatant → Bool
 bounces attack target = nat_lt (100 * attack) target.fighter.shield
 
--- a shot strikes where its target was not destroyed before, and where it does not bounce off
+-- a shot strikes if its target was not destroyed before and it does not bounce off
 abbrev pub strikes : ℕ → Combatant → Bool
 strikes attack target = not target.is_destroyed && not (bounces attack target)
 
@@ -25,13 +26,13 @@ hull_loss attack target = if strikes attack target then min (attack - shield_los
 abbrev pub hull_left : ℕ → Combatant → ℕ
 hull_left attack target = target.hull - hull_loss attack target
 
--- a hull is weak where a shot struck and leaves some of it, at most seven tenths of the full hull: a draw decides then
+-- a hull is weak if a shot struck and leaves some of it, at most seven tenths of the full hull: a draw decides then
 abbrev pub is_weak : ℕ → Combatant → Bool
 is_weak attack target =
     strikes attack target && nat_lt 0 (hull_left attack target) && nat_le (10 * hull_left attack target) (7 * target.fighter.hull)
 
--- a shot destroys its target where it leaves no hull, or a weak one and the number drawn below the full hull by this
--- word is not below what is left
+-- a shot destroys its target if it leaves no hull, or if it leaves a weak one and the number drawn below the full hull by
+-- this word is not below what is left
 abbrev pub destroys : ℕ → ℕ → Combatant → Bool
 destroys attack word target =
     strikes attack target
@@ -40,8 +41,8 @@ destroys attack word target =
 -- whether a draw decides if the shooter fires again: it has rapid fire against the target's kind, and this was not
 -- yet its 4096th shot of the round
 abbrev pub is_rapid : Kind → Kind → ℕ → Bool
-is_rapid shooter target count = nat_le 2 (rapid_of shooter target) && nat_lt count 4096
+is_rapid shooter target count = nat_le 2 (rapid_of shooter target) && nat_lt count MOST_SHOTS
 
--- the shooter fires again where the number drawn below its rapid fire by this word is not 0
+-- the shooter fires again if the number drawn below its rapid fire by this word is not 0
 abbrev pub fires_again : Kind → Kind → ℕ → ℕ → Bool
 fires_again shooter target count word = is_rapid shooter target count && nat_le 1 (draw word (rapid_of shooter target))

@@ -7,7 +7,7 @@ use Rattle.battle.specs.Sides.{Battle, Party, attackers, planet, enemy, units}
 use Rattle.battle.specs.declared.fighter.Fighter.{Fighter}
 use Rattle.battle.specs.declared.combatant.Combatant.{Combatant}
 
--- one shot: the places are those of the units in their sides, counted from 0
+-- one shot; places are those of the units in their sides, counted from 0
 pub record Shot : Type 0 where
   -- the round, from 1
   pub round : ℕ

@@ -11,6 +11,7 @@ use Rattle.catalog.specs.declared.kind.Kind.{Kind}
 use Rattle.catalog.specs.declared.kind.Kind.TheVariants.{Weapons, Shielding, Armour}
 use Rattle.rand_pcg.specs.Lcg.{Lcg}
 use Rattle.draws.specs.Draws.{stream_start}
+use Rattle.battle.specs.declared.limits.TheConstants.{MOST_UNITS}
 use Rattle.battle.specs.declared.part.Part.{Part}
 use Rattle.battle.specs.declared.fighter.Fighter.{Fighter}
 
@@ -60,10 +61,6 @@ battle_of attacking defending seed number =
 abbrev pub units : Battle → Party → List Fighter
 units b attackers = b.attackers
 units b planet = b.planet
-
--- the most units that a side has
-abbrev pub MOST_UNITS : ℕ
-MOST_UNITS = 800000
 
 -- a side: its parts come by their numbers, and it has at most so many units
 pub record IsSide (parts : List Part) : Type 0 where

@@ -56,7 +56,7 @@ pub record IsLegalAfter (b : Battle) (before : List Shot) (s : Shot) : Type 0 wh
   -- the words are the next ones: one for the target, and one for each other draw that is made
   pub words : s.words ≡ map (next_word b before) (range_with_len 0 (1 + one_if (weakens b before s) + one_if (is_rapid_shot b s)))
 
--- shots are legal after others where each of them is legal after those before it
+-- shots are legal after others if each of them is legal after those before it
 unfoldable pub AreLegalAfter : Battle → List Shot → List Shot → Type 0
 AreLegalAfter b before [] = Unit
 AreLegalAfter b before (s ∷ later) = IsLegalAfter b before s × AreLegalAfter b (before ++ s ∷ []) later

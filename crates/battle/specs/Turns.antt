@@ -1,6 +1,7 @@
 -- Whose turn it is to fire. Rule: docs/RULES.md, "The order of fire".
 use Rattle.std.specs.Prelude.{ℕ, Bool, true, false, List, ◌+◌, ◌*◌, ◌==◌, ◌&&◌, ◌||◌, ◌≡◌, not, length, nat_le, nat_lt}
 use Rattle.std.specs.List.{list_any}
+use Rattle.battle.specs.declared.limits.TheConstants.{MOST_ROUNDS}
 use Rattle.battle.specs.Sides.{Battle, Party, attackers, planet, units}
 use Rattle.battle.specs.Shots.{Shot, alive, is_alive, rank, unit_at}
 
@@ -25,12 +26,12 @@ is_same t u = half t == half u && t.place == u.place
 abbrev pub is_before : Turn → Turn → Bool
 is_before t u = nat_lt (half t) (half u) || half t == half u && nat_lt t.place u.place
 
--- a round is fought, of six at most, where both sides have units alive at its start
-abbrev pub is_fought : Battle → List Shot → ℕ → Bool
-is_fought b shots round =
-    nat_le 1 round && nat_le round 6 && nat_lt 0 (length (alive b shots round attackers)) && nat_lt 0 (length (alive b shots round planet))
+-- a round is fought, of six at most, if both sides have units alive at its start
+abbrev pub is_round_fought : Battle → List Shot → ℕ → Bool
+is_round_fought b shots round =
+    nat_le 1 round && nat_le round MOST_ROUNDS && nat_lt 0 (length (alive b shots round attackers)) && nat_lt 0 (length (alive b shots round planet))
 
--- a unit has fired all its shots of a round where one of them does not let it fire again
+-- a unit has fired all its shots of a round if one of them does not let it fire again
 abbrev pub has_fired : List Shot → Turn → Bool
 has_fired shots t = list_any (λ s. is_same (turn_of s) t && not s.again) shots
 
@@ -38,7 +39,7 @@ has_fired shots t = list_any (λ s. is_same (turn_of s) t && not s.again) shots
 -- fired all its shots
 abbrev pub is_open : Battle → List Shot → Turn → Bool
 is_open b shots t =
-    is_fought b shots t.round
+    is_round_fought b shots t.round
     && nat_lt t.place (length (units b t.party))
     && is_alive shots t.round t.party t.place
     && nat_lt 0 (unit_at b t.party t.place).attack

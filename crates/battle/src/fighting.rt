@@ -9,9 +9,11 @@ use crate::rounds::fight_rounds;
 use draws::Draws;
 use std::alloc::{AllocError, Global};
 
-/// Fights the battle of this number between attackers and a planet: its words are drawn from the stream of its number,
-/// from the universe's seed. Both sides keep all their parts, each with the units that are left of it, which may be
-/// none; so both can fight again. It fails only where memory runs out, and then both sides are as they were.
+/// Fights the battle of this number between attackers (`att`) and a planet (`def`). Its random words come from the stream
+/// of this number, and the stream from the universe's seed.
+///
+/// Both sides keep all their parts. Each part has the units that are left of it, which may be none. So both sides can
+/// fight again. It fails only if memory runs out, and then both sides are as they were.
 pub fn fight(
     alloc: Global,
     att: &mut Side,

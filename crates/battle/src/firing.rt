@@ -1,36 +1,34 @@
 ghost use Rattle.std.specs.Prelude.{◌≡◌, ◌+◌, ◌*◌, ◌<◌, ◌≤◌, length, nat_lt, nat_le};
-ghost use Rattle.battle.specs.Course.{goes_on, salvo, shot, struck, turn, volley, weak_words};
+ghost use Rattle.battle.specs.Course.{after_salvo, after_shot, after_turn, after_volley, goes_on, struck, weak_words};
 ghost use Rattle.battle.specs.Rules.{bounces, fires_again, is_rapid, is_weak};
-ghost use Rattle.battle.specs.Sides.{MOST_UNITS};
+ghost use Rattle.battle.specs.declared.limits.TheConstants.{MOST_SHOTS, MOST_UNITS};
 ghost use Rattle.battle.specs.Trace.{one_if};
 ghost use Rattle.draws.specs.Draws.{after, word_at};
 
 use crate::combatant::Combatant;
 use crate::fighter::Fighter;
+use crate::limits::MOST_SHOTS;
 use catalog::{Kind, rapid};
 use draws::Draws;
-
-/// The most shots that a unit fires in a round.
-const MOST_SHOTS: u32 = 4096;
 
 /// All turns of a half of a round: these units fire at those, one after the other.
 pub(crate) fn volley(shooters: &[Combatant], targets: &mut [Combatant], draws: &mut Draws)
     requires some { 1 ≤ length targets.old }
     requires most { length targets.old ≤ MOST_UNITS }
-    ensures targets { targets.new ≡ (volley shooters.now targets.old draws.old).targets }
-    ensures words { draws.new ≡ (volley shooters.now targets.old draws.old).stream }
+    ensures targets { targets.new ≡ (after_volley shooters.now targets.old draws.old).targets }
+    ensures words { draws.new ≡ (after_volley shooters.now targets.old draws.old).stream }
 {
     'shooters: for shooter in shooters {
-        turn(&shooter.fighter, targets, draws);
+        take_turn(&shooter.fighter, targets, draws);
     }
 }
 
-/// A unit's turn: one of attack 0 doesn't fire.
-fn turn(shooter: &Fighter, targets: &mut [Combatant], draws: &mut Draws)
+/// A unit's turn. A unit of attack 0 does not fire.
+fn take_turn(shooter: &Fighter, targets: &mut [Combatant], draws: &mut Draws)
     requires some { 1 ≤ length targets.old }
     requires most { length targets.old ≤ MOST_UNITS }
-    ensures targets { targets.new ≡ (turn shooter.now targets.old draws.old).targets }
-    ensures words { draws.new ≡ (turn shooter.now targets.old draws.old).stream }
+    ensures targets { targets.new ≡ (after_turn shooter.now targets.old draws.old).targets }
+    ensures words { draws.new ≡ (after_turn shooter.now targets.old draws.old).stream }
 {
     if shooter.attack > 0 {
         salvo(shooter, targets, draws);
@@ -41,8 +39,8 @@ fn turn(shooter: &Fighter, targets: &mut [Combatant], draws: &mut Draws)
 fn salvo(shooter: &Fighter, targets: &mut [Combatant], draws: &mut Draws)
     requires some { 1 ≤ length targets.old }
     requires most { length targets.old ≤ MOST_UNITS }
-    ensures targets { targets.new ≡ (salvo 4096 1 shooter.now targets.old draws.old).targets }
-    ensures words { draws.new ≡ (salvo 4096 1 shooter.now targets.old draws.old).stream }
+    ensures targets { targets.new ≡ (after_salvo MOST_SHOTS 1 shooter.now targets.old draws.old).targets }
+    ensures words { draws.new ≡ (after_salvo MOST_SHOTS 1 shooter.now targets.old draws.old).stream }
 {
     'shots: for count in 1..MOST_SHOTS + 1 {
         if !fire(shooter, count, targets, draws) {
@@ -51,13 +49,13 @@ fn salvo(shooter: &Fighter, targets: &mut [Combatant], draws: &mut Draws)
     }
 }
 
-/// One shot, this unit's `count`th of the round; whether it fires again.
+/// Fires one shot, this unit's `count`th of the round. It answers whether the unit fires again.
 fn fire(shooter: &Fighter, count: u32, targets: &mut [Combatant], draws: &mut Draws) -> bool
     requires some { 1 ≤ length targets.old }
     requires most { length targets.old ≤ MOST_UNITS }
     ensures again { result ≡ goes_on count shooter.now targets.old draws.old }
-    ensures targets { targets.new ≡ (shot count shooter.now targets.old draws.old).targets }
-    ensures words { draws.new ≡ (shot count shooter.now targets.old draws.old).stream }
+    ensures targets { targets.new ≡ (after_shot count shooter.now targets.old draws.old).targets }
+    ensures words { draws.new ≡ (after_shot count shooter.now targets.old draws.old).stream }
 {
     let place = draws.below(targets.len() as u32) as usize;
     let kind = targets[place].fighter.kind;
@@ -90,7 +88,7 @@ fn strike(attack: u32, target: &mut Combatant, draws: &mut Draws)
     target.hull -= on_hull;
     if target.hull == 0 {
         target.is_destroyed = true;
-    } else if is_weak(target) {
+    } else if has_weak_hull(target) {
         target.is_destroyed = draws.below(target.fighter.hull) >= target.hull;
     }
 }
@@ -103,7 +101,7 @@ fn bounces(attack: u32, target: &Combatant) -> bool
 }
 
 /// Whether at most seven tenths of the full hull are left.
-fn is_weak(target: &Combatant) -> bool
+fn has_weak_hull(target: &Combatant) -> bool
     ensures { result ≡ nat_le (10 * target.now.hull) (7 * target.now.fighter.hull) }
 {
     let hull = target.hull;

@@ -6,6 +6,7 @@ mod fighter;
 mod fighting;
 mod firing;
 mod laws;
+mod limits;
 mod muster;
 mod outcome;
 mod part;
@@ -14,7 +15,7 @@ mod rounds;
 mod survivors;
 
 pub use fighting::fight;
-pub use laws::{battles_have_one_trace, no_unit_is_gained};
+pub use laws::{battles_end_as_their_course, battles_have_one_trace, no_unit_is_gained};
 pub use outcome::{Outcome, Verdict};
 pub use part::{Part, Side};
 

@@ -19,8 +19,8 @@ pub struct Part {
     pub n: [u32; 22],
 }
 
-/// A side of a battle: its parts, by number. Contracts see it as the list of them. A battle asks that their numbers grow and
-/// that they have at most 800,000 units together (`can_fight`).
+/// A side of a battle: its parts, by number. Contracts see it as the list of them. A battle asks that their numbers rise and
+/// that they have at most 800000 units together (`can_fight`).
 #[derive(Debug, Drop)]
 pub struct Side {
     parts: Vec<Part>,
@@ -35,7 +35,8 @@ impl Model for Side {
 impl Side {
     ghost use Rattle.battle.specs.Course.{fighters_of};
     ghost use Rattle.battle.specs.Outcomes.{survivors};
-    ghost use Rattle.battle.specs.Sides.{IsSide, MOST_UNITS};
+    ghost use Rattle.battle.specs.Sides.{IsSide};
+    ghost use Rattle.battle.specs.declared.limits.TheConstants.{MOST_UNITS};
 
     /// A side without parts. It takes no memory.
     pub fn new(alloc: Global) -> Side
@@ -46,27 +47,13 @@ impl Side {
         }
     }
 
-    /// Adds a part at the end.
+    /// Adds a part at the end. It fails only if memory runs out, and then adds nothing.
     pub fn push(&mut self, part: Part) -> Result<(), AllocError>
         ensures ok { OnOk result (self.new ≡ self.old ++ part ∷ []) }
         ensures err { OnErr result (self.new ≡ self.old) }
     {
         self.parts.push(part)?;
         Ok(())
-    }
-
-    /// These parts, in their memory.
-    pub fn from_vec(parts: Vec<Part>) -> Side
-        ensures { result ≡ parts.items }
-    {
-        Side { parts }
-    }
-
-    /// The parts as a `Vec`, in the same memory.
-    pub fn into_vec(self) -> Vec<Part>
-        ensures { result.items ≡ self }
-    {
-        self.parts
     }
 
     /// How many parts there are.
@@ -90,7 +77,7 @@ impl Side {
         &self.parts
     }
 
-    /// Whether the parts come by their numbers, and have at most 800,000 units together: what a battle asks of a side.
+    /// Whether the numbers of the parts rise, and the parts have at most 800000 units together: what a battle asks of a side.
     pub fn can_fight(&self) -> bool
         ensures { IsTrue result ↔ IsSide self.now }
     {

@@ -1,11 +1,10 @@
 ghost use Rattle.std.specs.Prelude.{◌≡◌, ◌*◌, ◌^◌, ◌≤◌, ◌↔◌, ℕ, length, map, IsTrue};
 ghost use Rattle.std.specs.List.Sorted.{IsStrictlyIncreasing};
-ghost use Rattle.battle.specs.Sides.{MOST_UNITS, fighters, part_fighters};
+ghost use Rattle.battle.specs.declared.limits.TheConstants.{MOST_UNITS};
+ghost use Rattle.battle.specs.Sides.{fighters, part_fighters};
 
+use crate::limits::MOST_UNITS;
 use crate::part::Part;
-
-/// The most units that a side has.
-const UNIT_LIMIT: u64 = 800_000;
 
 /// Whether the parts come by their numbers.
 pub(crate) fn is_in_order(parts: &[Part]) -> bool
@@ -26,7 +25,7 @@ pub(crate) fn is_within_limit(parts: &[Part]) -> bool
     let mut units = 0;
     'parts: for part in parts {
         units += unit_count(part);
-        if units > UNIT_LIMIT {
+        if units > MOST_UNITS {
             return false;
         }
     }

@@ -1,15 +1,13 @@
 ghost use Rattle.std.specs.Prelude.{◌≡◌, ℕ, ◌+◌, ◌≤◌, ◌&&◌, filter, length, map, nat_lt, not};
-ghost use Rattle.battle.specs.Course.{round_after, rounds_after, standing, with_full_shield};
-ghost use Rattle.battle.specs.Sides.{MOST_UNITS};
+ghost use Rattle.battle.specs.Course.{after_round, after_rounds, standing, with_full_shield};
+ghost use Rattle.battle.specs.declared.limits.TheConstants.{MOST_ROUNDS, MOST_UNITS};
 
 use crate::combatant::Combatant;
 use crate::firing::volley;
+use crate::limits::MOST_ROUNDS;
 use draws::Draws;
 
-/// The most rounds of a battle.
-const MOST_ROUNDS: u8 = 6;
-
-/// The rounds of a battle, six at most, each where both sides have units; how many were fought.
+/// Fights the rounds of a battle, six at most and each only if both sides have units. It answers how many were fought.
 pub(crate) fn fight_rounds(
     attackers: &mut Vec<Combatant>,
     planet: &mut Vec<Combatant>,
@@ -18,7 +16,7 @@ pub(crate) fn fight_rounds(
     requires attackers_most { length attackers.old.items ≤ MOST_UNITS }
     requires planet_most { length planet.old.items ≤ MOST_UNITS }
     ensures course { record { attackers = attackers.new.items; planet = planet.new.items; stream = draws.new; rounds = result }
-        ≡ rounds_after 6 (record { attackers = attackers.old.items; planet = planet.old.items; stream = draws.old; rounds = 0 }) }
+        ≡ after_rounds MOST_ROUNDS (record { attackers = attackers.old.items; planet = planet.old.items; stream = draws.old; rounds = 0 }) }
     ensures attackers_fewer { length attackers.new.items ≤ MOST_UNITS }
     ensures planet_fewer { length planet.new.items ≤ MOST_UNITS }
 {
@@ -46,7 +44,7 @@ fn fight_round(attackers: &mut Vec<Combatant>, planet: &mut Vec<Combatant>, draw
     requires planet_most { length planet.old.items ≤ MOST_UNITS }
     ensures round { (rounds : ℕ)
         → record { attackers = attackers.new.items; planet = planet.new.items; stream = draws.new; rounds = rounds + 1 }
-        ≡ round_after (record { attackers = attackers.old.items; planet = planet.old.items; stream = draws.old; rounds = rounds }) }
+        ≡ after_round (record { attackers = attackers.old.items; planet = planet.old.items; stream = draws.old; rounds = rounds }) }
     ensures attackers_fewer { length attackers.new.items ≤ length attackers.old.items }
     ensures planet_fewer { length planet.new.items ≤ length planet.old.items }
 {

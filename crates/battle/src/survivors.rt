@@ -1,61 +1,53 @@
-ghost use Rattle.std.specs.Prelude.{◌≡◌, ◌≢◌, ℕ, ◌+◌, ◌<◌, ◌≤◌, ◌==◌, length, map, slice_index, IfNone, IfSome};
+ghost use Rattle.std.specs.Prelude.{◌≡◌, ◌≢◌, ℕ, ◌+◌, ◌<◌, ◌≤◌, [], length, slice_index, IfNone, IfSome};
 ghost use Rattle.catalog.specs.Kinds.{kind_number};
-ghost use Rattle.catalog.specs.declared.classes.TheConstants.{UNIT_KINDS};
 ghost use Rattle.battle.specs.Course.{fighters_of};
-ghost use Rattle.battle.specs.Outcomes.{count_of, survivors};
-ghost use Rattle.battle.specs.Places.{unit_number};
-ghost use Rattle.battle.specs.Sides.{MOST_UNITS};
-ghost use Rattle.battle.specs.Trace.{one_if};
+ghost use Rattle.battle.specs.Outcomes.{survivors};
+ghost use Rattle.battle.specs.Places.{GainsOne, unit_number};
+ghost use Rattle.battle.specs.declared.limits.TheConstants.{MOST_UNITS};
 
 use crate::combatant::Combatant;
 use crate::part::Part;
-use catalog::Kind;
+use catalog::{Kind, UNIT_KINDS};
 
 /// Gives each part of a side the units that are left of it.
 pub(crate) fn keep(side: &mut [Part], living: &[Combatant])
     requires { length living.now ≤ MOST_UNITS }
     ensures { side.new ≡ survivors (fighters_of living.now) side.old }
 {
-    'parts: for (place, part) in side.iter_mut().enumerate() {
-        part.n = counts(living, place);
+    clear(side);
+    'living: for unit in living {
+        let place = unit.fighter.part;
+        if place < side.len() {
+            add_one(&mut side[place], unit.fighter.kind);
+        }
     }
 }
 
-/// How many units of each kind are left of the part at this place.
-fn counts(living: &[Combatant], part: usize) -> [u32; 22]
-    requires { length living.now ≤ MOST_UNITS }
-    ensures { result ≡ map (count_of (fighters_of living.now) part) UNIT_KINDS }
+/// Takes all units from the parts of a side.
+fn clear(side: &mut [Part])
+    ensures { side.new ≡ survivors [] side.old }
 {
-    let mut counts = [0; 22];
-    'living: for unit in living {
-        if unit.fighter.part == part {
-            add_one(&mut counts, unit.fighter.kind);
-        }
+    'parts: for part in side.iter_mut() {
+        part.n = [0; 22];
     }
-    counts
 }
 
 /// Counts one unit more of a kind.
-fn add_one(counts: &mut [u32], kind: Kind)
-    requires kinds { length counts.old ≡ 22 }
-    requires room { (place : ℕ) → place < 22 → slice_index counts.old place < MOST_UNITS }
-    ensures { (place : ℕ) → place < 22 → slice_index counts.new place
-        ≡ slice_index counts.old place + one_if (kind_number kind == unit_number place) }
+fn add_one(part: &mut Part, kind: Kind)
+    requires room { (place : ℕ) → place < 22 → slice_index part.old.n place < MOST_UNITS }
+    ensures { GainsOne kind part.old part.new }
 {
     if let Some(place) = unit_place(kind) {
-        counts[place] += 1;
+        part.n[place] += 1;
     }
 }
 
-/// The place of a kind among the kinds of units; `None` where it is no unit.
+/// The place of a kind among the kinds of units, counted from 0. `None` if it is no unit.
 fn unit_place(kind: Kind) -> Option<usize>
     ensures within { IfSome result (λ place. place < 22) }
     ensures found { IfSome result (λ place. unit_number place ≡ kind_number kind) }
     ensures none { IfNone result ((place : ℕ) → place < 22 → unit_number place ≢ kind_number kind) }
 {
-    match kind.number() {
-        number @ 41..=54 => Some(usize::from(number - 41)),
-        number @ 61..=68 => Some(usize::from(number - 47)),
-        _ => None,
-    }
+    let number = kind.number();
+    UNIT_KINDS.iter().position(|unit| unit.number() == number)
 }

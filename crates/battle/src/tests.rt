@@ -478,6 +478,43 @@ fn check_left(rt: &impl Abort, before: &[Force], left: &[&[Units]], after: &Side
     }
 }
 
+/// A thousand parts on each side; computed likewise.
+#[test]
+fn a_thousand_parts_fight(rt: HostRuntime) -> Result<(), Fail> {
+    let mut attackers = Side::new(rt.alloc());
+    let mut planet = Side::new(rt.alloc());
+    for number in 0..1000 {
+        attackers.push(part(number, LOW_TECHS, &[(LightFighter, 1), (Battleship, 1)]))?;
+        planet.push(part(number, LOW_TECHS, &[(Satellite, 1), (HeavyLaser, 4)]))?;
+    }
+    assert!(rt; attackers.can_fight() && planet.can_fight());
+    let outcome = fight(rt.alloc(), &mut attackers, &mut planet, 7, 1)?;
+    assert_eq!(rt;
+        outcome,
+        Outcome {
+            verdict: Verdict::Draw,
+            rounds: 6
+        }
+    );
+    assert_eq!(rt; left_of(&attackers, 2), (1, 751));
+    assert_eq!(rt; left_of(&attackers, 5), (728, 367_528));
+    assert_eq!(rt; left_of(&planet, 13), (11, 6856));
+    assert_eq!(rt; left_of(&planet, 16), (35, 18_988));
+    Ok(())
+}
+
+/// How many units are left of the kind at this place, and the sum of the numbers of their parts.
+fn left_of(side: &Side, place: usize) -> (u64, u64) {
+    let mut units = 0u64;
+    let mut numbers = 0u64;
+    for part in side.as_slice() {
+        let left = u64::from(part.n.get(place).copied().unwrap_or(0));
+        units = units.wrapping_add(left);
+        numbers = numbers.wrapping_add(part.number.wrapping_mul(left));
+    }
+    (units, numbers)
+}
+
 #[test]
 fn a_side_can_fight_in_order_and_within_the_limit(rt: HostRuntime) -> Result<(), Fail> {
     let first = Part {
@@ -495,13 +532,12 @@ fn a_side_can_fight_in_order_and_within_the_limit(rt: HostRuntime) -> Result<(),
     side.push(first)?;
     side.push(second)?;
     assert!(rt; !side.is_empty() && side.can_fight());
-    let mut parts = side.into_vec();
-    parts.push(Part {
+    side.push(Part {
         number: 5,
         techs: NO_TECHS,
         n: [1; 22],
     })?;
-    assert!(rt; !Side::from_vec(parts).can_fight());
+    assert!(rt; !side.can_fight());
 
     let mut twice = Side::new(rt.alloc());
     twice.push(second)?;

@@ -18,7 +18,9 @@ mod table_laws;
 mod techs;
 
 pub use amounts::{Amounts, CAP};
-pub use classes::{Building, Technology, UNIT_KINDS, Unit, Work};
+pub use classes::{
+    BUILDINGS, Building, Class, TECHNOLOGIES, Technology, UNIT_KINDS, Unit, WORKS, Work,
+};
 pub use engine::{Drive, Engine};
 pub use growth::Growth;
 pub use kind::{KINDS, Kind};

@@ -33,8 +33,7 @@ impl fmt::Display for SpeedSetting {
     ghost output = { λ setting. Some (decimal setting.p) };
 
     fn fmt<W: fmt::Write>(&self, f: &mut fmt::Formatter<W>) -> fmt::Result {
-        let number = self.p;
-        write!(f, "{number}")
+        write!(f, "{}", self.p)
     }
 }
 
@@ -45,8 +44,7 @@ impl fmt::Display for Tenths {
     ghost output = { λ tenths. Some (decimal tenths.n) };
 
     fn fmt<W: fmt::Write>(&self, f: &mut fmt::Formatter<W>) -> fmt::Result {
-        let number = self.n;
-        write!(f, "{number}")
+        write!(f, "{}", self.n)
     }
 }
 
@@ -57,7 +55,6 @@ impl fmt::Display for Count {
     ghost output = { λ count. Some (decimal count.n) };
 
     fn fmt<W: fmt::Write>(&self, f: &mut fmt::Formatter<W>) -> fmt::Result {
-        let number = self.n;
-        write!(f, "{number}")
+        write!(f, "{}", self.n)
     }
 }

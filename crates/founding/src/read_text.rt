@@ -1,7 +1,7 @@
 ghost use Rattle.std.specs.Prelude.{◌≡◌, ◌≢◌, ◌+◌, ◌≤◌, ◌<◌, List, ℕ, length, Err, IfOk, OnOk, MatchResult, Option};
 ghost use Rattle.ports.specs.Causes.{Rose};
 ghost use Rattle.ports.specs.declared.clock.TheConstants.{LATEST};
-ghost use Rattle.request_text.specs.LineReading.{ahead, taken, told, Follows, IsSpent, Known, Sees};
+ghost use Rattle.request_text.specs.LineReading.{ahead, taken, answered_line, Follows, IsSpent, Known, Sees};
 ghost use Rattle.request_text.specs.declared.line_reader.TheConstants.{LONGEST_LINE};
 ghost use Rattle.founding.specs.Drafts.{Drafted};
 ghost use Rattle.founding.specs.Reading.{Reads, Stops};
@@ -60,9 +60,9 @@ fn next_text<S: Source>(
 ) -> Result<(), FoundingFault>
     ensures tells { Known (S.left source.old) (S.left source.new) (λ left more. (text : List ℕ)
         → Sees lines.old left text → MatchResult result
-        (λ done. Follows lines.new more text (told lines.new))
+        (λ done. Follows lines.new more text (answered_line lines.new))
         (λ fault. (said : Option Drafted) → Stops said number text lines.new more fault)) }
-    ensures short { OnOk result (length (told lines.new) ≤ LONGEST_LINE) }
+    ensures short { OnOk result (length (answered_line lines.new) ≤ LONGEST_LINE) }
     ensures nears { OnOk result (ahead lines.new < ahead lines.old) }
     ensures ahead { ahead lines.new ≤ ahead lines.old }
     ensures counts { Known (S.left source.old) (S.left source.new)

@@ -1,25 +1,11 @@
--- The words of a line and the lines of kinds, one more at a time.
-use Rattle.std.proofs.Common.{◌≡◌, ℕ, suc, zero, ◌+◌, ◌<◌, List, [], ◌∷◌, ◌++◌, length, take, get_or, refl, ap, sym, ◌∙◌, arith, append_assoc, cond, eqb, ne_eqb, add-one, append-nil}
-use Rattle.std.proofs.lemmas.List.{map_more}
-use Rattle.std.specs.Prelude.{map}
+-- The lines of kinds, one more at a time, and the line of a fleet from its parts.
+use Rattle.std.proofs.Common.{◌≡◌, ℕ, suc, zero, ◌+◌, ◌<◌, List, [], ◌∷◌, ◌++◌, length, take, get_or, refl, ap, sym, ◌∙◌, arith, append_assoc, add-one, append-nil}
+use Rattle.std.specs.Prelude.{codes}
 use Rattle.std.specs.List.{join_with_byte}
-use Rattle.catalog.proofs.Parts.{join-more, no_parts}
 use Rattle.catalog.specs.declared.kind.Kind.{Kind}
-use Rattle.reply_text.specs.Words.{kind_line, kind_lines, word_text}
-use Rattle.reply_text.specs.declared.words.Word.{Word}
-
-first_parts : (words : List Word) (i : ℕ) → i < length words → no_parts (map word_text (take i words)) ≡ eqb i 0
-first_parts (word ∷ words) zero within = refl
-first_parts (word ∷ words) (suc i) within = sym (ne_eqb (suc i) 0 (omega arith))
-first_parts [] i within = absurd (omega arith)
-
--- one word more
-pub words_more : (words : List Word) (i : ℕ) (d : Word) → i < length words → join_with_byte 32 (map word_text (take (i + 1) words)) ≡ join_with_byte 32 (map word_text (take i words)) ++ cond (eqb i 0) (word_text (get_or words i d)) (32 ∷ word_text (get_or words i d))
-words_more words i d within =
-    let parts = map word_text (take i words) in
-    let part = word_text (get_or words i d) in
-    ap (join_with_byte 32) (map_more word_text words i d within) ∙ join-more 32 parts part
-    ∙ ap (λ b. join_with_byte 32 parts ++ cond b part (32 ∷ part)) (first_parts words i within)
+use Rattle.reply_text.specs.FleetLines.{course_words, fleet_line, state_words}
+use Rattle.reply_text.specs.declared.fleet_lines.FleetLine.{FleetLine}
+use Rattle.reply_text.specs.Words.{kind_line, kind_lines, line}
 
 -- the line of one kind more
 pub kinds_more : (label : List ℕ) (usual : ℕ) (kinds : List Kind) (numbers : List ℕ) (i : ℕ) (d : Kind) → i < length kinds → i < length numbers → kind_lines label usual (take (i + 1) kinds) (take (i + 1) numbers) ≡ kind_lines label usual (take i kinds) (take i numbers) ++ kind_line label usual (get_or kinds i d) (get_or numbers i 0)
@@ -33,3 +19,25 @@ kinds_more label usual kinds numbers i d within there = rw (add-one) (more kinds
         ∙ sym (append_assoc (kind_line label usual kind number) (kind_lines label usual (take i kinds) (take i numbers)) (kind_line label usual (get_or kinds i d) (get_or numbers i 0)))
     more [] numbers i within there = absurd (omega arith)
     more (kind ∷ kinds) [] i within there = absurd (omega arith)
+
+-- a piece more behind what was written
+pub written_more : (old new front piece whole : List ℕ) → new ≡ old ++ piece → old ≡ front → whole ≡ front ++ piece → new ≡ whole
+written_more old new front piece whole last before more = last ∙ ap (λ text. text ++ piece) before ∙ sym more
+
+-- words of two lists, one after the other
+join-both : (c : ℕ) (xs ys : List (List ℕ)) → 0 < length xs → 0 < length ys → join_with_byte c (xs ++ ys) ≡ join_with_byte c xs ++ (c ∷ join_with_byte c ys)
+join-both c (x ∷ []) (y ∷ ys) some more = refl
+join-both c (x ∷ next ∷ xs) (y ∷ ys) some more =
+    ap (λ rest. x ++ (c ∷ rest)) (join-both c (next ∷ xs) (y ∷ ys) (omega arith) more)
+    ∙ sym (append_assoc x (c ∷ join_with_byte c (next ∷ xs)) (c ∷ join_with_byte c (y ∷ ys)))
+join-both c [] ys some more = absurd (omega (arith, some))
+join-both c xs [] some more = absurd (omega (arith, more))
+
+-- the line of a fleet in two parts
+pub fleet_line_by : (fleet : FleetLine) (course state : List ℕ) → course ≡ join_with_byte 32 (course_words fleet) → state ≡ join_with_byte 32 (state_words fleet)
+    → fleet_line fleet ≡ (codes "fleet " ++ (course ++ (32 ∷ state))) ++ 10 ∷ []
+unfolding line
+fleet_line_by fleet course state course_is state_is =
+    ap (λ text. (codes "fleet " ++ text) ++ 10 ∷ []) (join-both 32 (course_words fleet) (state_words fleet) (omega arith) (omega arith))
+    ∙ ap (λ text. (codes "fleet " ++ (text ++ (32 ∷ join_with_byte 32 (state_words fleet)))) ++ 10 ∷ []) (sym course_is)
+    ∙ ap (λ text. (codes "fleet " ++ (course ++ (32 ∷ text))) ++ 10 ∷ []) (sym state_is)

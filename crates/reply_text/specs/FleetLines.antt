@@ -1,11 +1,12 @@
 -- The lines that show fleets, and the planets of a system.
-use Rattle.std.specs.Prelude.{ℕ, List, [], ◌∷◌, codes}
+use Rattle.std.specs.Prelude.{ℕ, List, [], ◌∷◌, ◌++◌, codes}
 use Rattle.std.specs.Fmt.{decimal}
 use Rattle.base_ids.specs.Text.{coord_text, player_text}
 use Rattle.base_ids.specs.declared.coord.Coord.{Coord}
 use Rattle.base_ids.specs.declared.player.Player.{Player}
 use Rattle.catalog.specs.Missions.{mission_word}
 use Rattle.catalog.specs.Texts.{ships_text}
+use Rattle.reply_text.specs.Units.{units_text}
 use Rattle.reply_text.specs.Words.{line}
 use Rattle.reply_text.specs.declared.fleet_lines.FleetLine.{FleetLine}
 use Rattle.reply_text.specs.declared.fleet_lines.Stage.{Stage}
@@ -16,11 +17,18 @@ abbrev pub stage_word : Stage → List ℕ
 stage_word Out = codes "out"
 stage_word Back = codes "back"
 
+-- N GROUP MISSION FROM TO: which fleet it is, and what it is sent for
+abbrev pub course_words : FleetLine → List (List ℕ)
+course_words fleet =
+    decimal fleet.number ∷ decimal fleet.group ∷ mission_word fleet.mission ∷ coord_text fleet.from ∷ coord_text fleet.to ∷ []
+
+-- STAGE SECOND M C D SHIPS: how far it is, and what it has on board
+abbrev pub state_words : FleetLine → List (List ℕ)
+state_words fleet = stage_word fleet.stage ∷ decimal fleet.second ∷ units_text fleet.cargo ∷ ships_text fleet.ships ∷ []
+
 -- `fleet N GROUP MISSION FROM TO STAGE SECOND M C D SHIPS`
 abbrev pub fleet_line : FleetLine → List ℕ
-fleet_line fleet =
-    line (codes "fleet" ∷ decimal fleet.number ∷ decimal fleet.group ∷ mission_word fleet.mission ∷ coord_text fleet.from ∷ coord_text fleet.to
-    ∷ stage_word fleet.stage ∷ decimal fleet.second ∷ decimal fleet.cargo.metal ∷ decimal fleet.cargo.crystal ∷ decimal fleet.cargo.deuterium ∷ ships_text fleet.ships.n ∷ [])
+fleet_line fleet = line (codes "fleet" ∷ course_words fleet ++ state_words fleet)
 
 -- `at C OWNER M C`: a planet of a system, with the metal and crystal of its debris
 abbrev pub at_line : Coord → Player → ℕ → ℕ → List ℕ

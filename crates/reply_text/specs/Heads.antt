@@ -21,7 +21,7 @@ end_text reply = if reply.code == 0 then line (codes "." ∷ []) else []
 unfoldable pub text : Reply → List ℕ
 text reply = head_text reply ++ reply.body ++ end_text reply
 
--- the line that answers where there is no reply
+-- the line that answers a request that has no reply
 abbrev pub refused_text : Refused → List ℕ
 refused_text (Full count) = line (codes "full" ∷ decimal count ∷ [])
 refused_text (DeviceFault number) = line (codes "fault" ∷ decimal number ∷ [])

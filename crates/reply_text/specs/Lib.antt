@@ -1,4 +1,5 @@
 pub mod Words
+pub mod Units
 pub mod Heads
 pub mod PlanetLines
 pub mod QueueLines

@@ -2,8 +2,11 @@
 use Rattle.std.specs.Prelude.{ℕ, List, [], ◌∷◌, codes, filter}
 use Rattle.std.specs.Fmt.{decimal, signed_decimal}
 use Rattle.base_ids.specs.Text.{coord_text, player_text}
-use Rattle.catalog.specs.Classes.{is_building, is_unit, is_work}
+use Rattle.catalog.specs.Classes.{is_building, is_unit}
+use Rattle.catalog.specs.declared.kind.Kind.{Kind}
+use Rattle.catalog.specs.declared.kind.Kind.TheVariants.{MetalMine, CrystalMine, DeuteriumSynth, SolarPlant, Satellite}
 use Rattle.catalog.specs.declared.kind.TheConstants.{KINDS}
+use Rattle.reply_text.specs.Units.{units_text}
 use Rattle.reply_text.specs.Words.{kind_lines, line}
 use Rattle.reply_text.specs.declared.planet_lines.PlanetHead.{PlanetHead}
 use Rattle.reply_text.specs.declared.units.Units.{Units}
@@ -13,21 +16,21 @@ abbrev pub planet_line : PlanetHead → List ℕ
 planet_line planet =
     line (codes "planet" ∷ coord_text planet.at ∷ player_text planet.owner ∷ signed_decimal planet.temperature ∷ decimal planet.fields ∷ decimal planet.used ∷ [])
 
--- NAME M C D
-abbrev pub units_line : List ℕ → Units → List ℕ
-units_line name units = line (name ∷ decimal units.metal ∷ decimal units.crystal ∷ decimal units.deuterium ∷ [])
+-- NAME M C D: metal, crystal and deuterium
+abbrev pub amounts_line : List ℕ → Units → List ℕ
+amounts_line name units = line (name ∷ units_text units ∷ [])
 
 -- `stock M C D`: what the planet has
 abbrev pub stock_line : Units → List ℕ
-stock_line units = units_line (codes "stock") units
+stock_line units = amounts_line (codes "stock") units
 
 -- `hourly M C D`: what it yields an hour
 abbrev pub hourly_line : Units → List ℕ
-hourly_line units = units_line (codes "hourly") units
+hourly_line units = amounts_line (codes "hourly") units
 
--- `limit M C D`: up to where production fills its stocks
+-- `limit M C D`: the units up to which production fills its stocks
 abbrev pub limit_line : Units → List ℕ
-limit_line units = units_line (codes "limit") units
+limit_line units = amounts_line (codes "limit") units
 
 -- `energy GIVEN NEED`
 abbrev pub energy_line : ℕ → ℕ → List ℕ
@@ -41,9 +44,13 @@ debris_line metal crystal = line (codes "debris" ∷ decimal metal ∷ decimal c
 abbrev pub level_lines : List ℕ → List ℕ
 level_lines levels = kind_lines (codes "level") 0 (filter is_building KINDS) levels
 
--- `set NAME N` for each setting other than 10: the three mines, the solar plant and the satellite
+-- the kinds whose work can be set, in the order in which their settings stand
+abbrev pub works : List Kind
+works = MetalMine ∷ CrystalMine ∷ DeuteriumSynth ∷ SolarPlant ∷ Satellite ∷ []
+
+-- `set NAME N` for each setting other than 10, in this order
 abbrev pub set_lines : List ℕ → List ℕ
-set_lines settings = kind_lines (codes "set") 10 (filter is_work KINDS) settings
+set_lines settings = kind_lines (codes "set") 10 works settings
 
 -- `units NAME N` for each ship and defence above 0, by the numbers of the kinds
 abbrev pub unit_lines : List ℕ → List ℕ

@@ -4,9 +4,7 @@ use Rattle.std.specs.Fmt.{decimal}
 use Rattle.base_ids.specs.Text.{coord_text}
 use Rattle.base_ids.specs.declared.coord.Coord.{Coord}
 use Rattle.catalog.specs.Kinds.{kind_word}
-use Rattle.catalog.specs.declared.classes.Building.{Building}
-use Rattle.catalog.specs.declared.classes.Technology.{Technology}
-use Rattle.catalog.specs.declared.classes.Unit.{Unit as UnitKind}
+use Rattle.catalog.specs.declared.kind.Kind.{Kind}
 use Rattle.reply_text.specs.Words.{line}
 use Rattle.reply_text.specs.declared.queue_lines.RunningBuilding.{RunningBuilding}
 use Rattle.reply_text.specs.declared.queue_lines.RunningResearch.{RunningResearch}
@@ -15,27 +13,27 @@ use Rattle.reply_text.specs.declared.queue_lines.RunningBatch.{RunningBatch}
 -- `building N NAME LEVEL SECOND`: the level that is built and the second at which it ends
 abbrev pub building_line : RunningBuilding → List ℕ
 building_line item =
-    line (codes "building" ∷ decimal item.number ∷ kind_word item.building.kind ∷ decimal item.level ∷ decimal item.second ∷ [])
+    line (codes "building" ∷ decimal item.number ∷ kind_word item.kind ∷ decimal item.level ∷ decimal item.second ∷ [])
 
 -- `waiting N NAME`
-abbrev pub waiting_building_line : ℕ → Building → List ℕ
-waiting_building_line number building = line (codes "waiting" ∷ decimal number ∷ kind_word building.kind ∷ [])
+abbrev pub waiting_building_line : ℕ → Kind → List ℕ
+waiting_building_line number kind = line (codes "waiting" ∷ decimal number ∷ kind_word kind ∷ [])
 
 -- `yard N NAME LEFT SECOND`: the units that are left and the second of the next
 abbrev pub yard_line : RunningBatch → List ℕ
 yard_line batch =
-    line (codes "yard" ∷ decimal batch.number ∷ kind_word batch.unit.kind ∷ decimal batch.left ∷ decimal batch.second ∷ [])
+    line (codes "yard" ∷ decimal batch.number ∷ kind_word batch.kind ∷ decimal batch.left ∷ decimal batch.second ∷ [])
 
 -- `yardwaiting N NAME LEFT`
-abbrev pub yard_waiting_line : ℕ → UnitKind → ℕ → List ℕ
-yard_waiting_line number unit left = line (codes "yardwaiting" ∷ decimal number ∷ kind_word unit.kind ∷ decimal left ∷ [])
+abbrev pub yard_waiting_line : ℕ → Kind → ℕ → List ℕ
+yard_waiting_line number kind left = line (codes "yardwaiting" ∷ decimal number ∷ kind_word kind ∷ decimal left ∷ [])
 
 -- `research N NAME LEVEL SECOND C`: the level that is researched, the second at which it ends, and whose lab does it
 abbrev pub research_line : RunningResearch → List ℕ
 research_line item =
-    line (codes "research" ∷ decimal item.number ∷ kind_word item.technology.kind ∷ decimal item.level ∷ decimal item.second ∷ coord_text item.at ∷ [])
+    line (codes "research" ∷ decimal item.number ∷ kind_word item.kind ∷ decimal item.level ∷ decimal item.second ∷ coord_text item.at ∷ [])
 
 -- `waiting N NAME C`
-abbrev pub waiting_research_line : ℕ → Technology → Coord → List ℕ
-waiting_research_line number technology at =
-    line (codes "waiting" ∷ decimal number ∷ kind_word technology.kind ∷ coord_text at ∷ [])
+abbrev pub waiting_research_line : ℕ → Kind → Coord → List ℕ
+waiting_research_line number kind at =
+    line (codes "waiting" ∷ decimal number ∷ kind_word kind ∷ coord_text at ∷ [])

@@ -1,14 +1,17 @@
-ghost use Rattle.std.specs.Prelude.{◌≡◌, ◌++◌, OnErr, OnOk};
-ghost use Rattle.reply_text.specs.FleetLines.{at_line, fleet_line};
+ghost use Rattle.std.specs.Prelude.{◌≡◌, ◌∷◌, ◌++◌, IfOk, OnErr, OnOk, if◌then◌else◌, string_bytes};
+ghost use Rattle.std.specs.List.{join_with_byte};
+ghost use Rattle.catalog.specs.Texts.{ship_part, ships_text};
+ghost use Rattle.reply_text.specs.FleetLines.{at_line, course_words, fleet_line, state_words};
 
+use crate::lines::push_line;
 use crate::units::Units;
-use crate::words::{Word, push_line};
 use base_ids::{Coord, Player};
 use base_text::Bytes;
-use catalog::{Mission, Ships};
-use std::alloc::AllocError;
+use catalog::{Kind, Mission, SHIPS};
+use std::alloc::{AllocError, Global};
+use std::fmt;
 
-/// Where a fleet is in its flight.
+/// Whether a fleet flies out or back.
 #[derive(Clone, Copy, Debug, PartialEq, Eq)]
 pub enum Stage {
     /// It flies to its target.
@@ -17,23 +20,23 @@ pub enum Stage {
     Back,
 }
 
-impl Stage {
-    ghost use Rattle.std.specs.Prelude.{◌≡◌};
+impl fmt::Display for Stage {
+    ghost use Rattle.std.specs.Prelude.{Some};
     ghost use Rattle.reply_text.specs.FleetLines.{stage_word};
 
-    /// The word of the stage.
-    pub fn word(self) -> &'static str
-        ensures { result.now ≡ stage_word self }
-    {
+    ghost output = { λ stage. Some (stage_word stage) };
+
+    fn fmt<W: fmt::Write>(&self, f: &mut fmt::Formatter<W>) -> fmt::Result {
         match self {
-            Stage::Out => "out",
-            Stage::Back => "back",
+            Stage::Out => write!(f, "out"),
+            Stage::Back => write!(f, "back"),
         }
     }
 }
 
-/// What the line of a fleet shows: its number, its group (its own number where it joined nobody), its mission, where it
-/// comes from and flies to, its stage, the second at which it arrives or is back, its cargo and its ships.
+/// What the line of a fleet shows: its number; its group, which is its own number if it joined nobody; its mission; its
+/// origin and its target; its stage; the second at which it arrives or is back; its cargo; and its ships, a count for
+/// each kind of `SHIPS`.
 #[derive(Clone, Copy, Debug, PartialEq, Eq)]
 pub struct FleetLine {
     pub number: u64,
@@ -44,39 +47,85 @@ pub struct FleetLine {
     pub stage: Stage,
     pub second: u64,
     pub cargo: Units,
-    pub ships: Ships,
+    pub ships: [u32; 13],
+}
+
+/// The text of ships: `NAME=N` for each kind that is there, joined by commas.
+fn ships_text(alloc: Global, counts: &[u32; 13]) -> Result<String, AllocError>
+    ensures { IfOk result (λ text. string_bytes text ≡ ships_text counts.now) }
+{
+    let mut text = String::new(alloc);
+    let mut is_first = true;
+    'ships: for (i, count) in counts.iter().enumerate() {
+        if *count == 0 {
+            continue;
+        }
+        push_ship(&mut text, is_first, SHIPS[i], *count)?;
+        is_first = false;
+    }
+    Ok(text)
+}
+
+/// Appends one kind of ships with its count, and a comma before it if it isn't the first.
+fn push_ship(text: &mut String, is_first: bool, kind: Kind, count: u32) -> Result<(), AllocError>
+    ensures { OnOk result (string_bytes text.new ≡ string_bytes text.old
+        ++ (if is_first then ship_part kind count else 44 ∷ ship_part kind count)) }
+{
+    if is_first {
+        write!(text, "{kind}={count}")
+    } else {
+        write!(text, ",{kind}={count}")
+    }
+}
+
+/// `N GROUP MISSION FROM TO`.
+fn course_text(alloc: Global, fleet: &FleetLine) -> Result<String, AllocError>
+    ensures { IfOk result (λ text. string_bytes text ≡ join_with_byte 32 (course_words fleet.now)) }
+{
+    let FleetLine {
+        number,
+        group,
+        mission,
+        from,
+        to,
+        ..
+    } = *fleet;
+    format!(in alloc; "{number} {group} {mission} {from} {to}")
+}
+
+/// `STAGE SECOND M C D SHIPS`.
+fn state_text(alloc: Global, fleet: &FleetLine) -> Result<String, AllocError>
+    ensures { IfOk result (λ text. string_bytes text ≡ join_with_byte 32 (state_words fleet.now)) }
+{
+    let FleetLine {
+        stage,
+        second,
+        cargo,
+        ..
+    } = *fleet;
+    let ships = ships_text(alloc, &fleet.ships)?;
+    format!(in alloc; "{stage} {second} {cargo} {ships}")
 }
 
 /// Appends `fleet N GROUP MISSION FROM TO STAGE SECOND M C D SHIPS`: a fleet.
 ///
-/// It fails only where memory runs out, and then appends nothing.
-pub fn push_fleet(body: &mut Bytes, fleet: &FleetLine) -> Result<(), AllocError>
+/// It fails only if memory runs out, and then appends nothing.
+pub fn push_fleet(alloc: Global, body: &mut Bytes, fleet: &FleetLine) -> Result<(), AllocError>
     ensures ok { OnOk result (body.new ≡ body.old ++ fleet_line fleet.now) }
     ensures err { OnErr result (body.new ≡ body.old) }
 {
-    push_line(
-        body,
-        &[
-            Word::Name("fleet"),
-            Word::Number(fleet.number),
-            Word::Number(fleet.group),
-            Word::OfMission(fleet.mission),
-            Word::Place(fleet.from.g, fleet.from.s, fleet.from.p),
-            Word::Place(fleet.to.g, fleet.to.s, fleet.to.p),
-            Word::Name(fleet.stage.word()),
-            Word::Number(fleet.second),
-            Word::Number(fleet.cargo.metal),
-            Word::Number(fleet.cargo.crystal),
-            Word::Number(fleet.cargo.deuterium),
-            Word::Fleet(fleet.ships.n),
-        ],
-    )
+    let course = course_text(alloc, fleet)?;
+    let state = state_text(alloc, fleet)?;
+    push_line(alloc, body, format_args!("fleet {course} {state}"))
 }
 
-/// Appends `at C OWNER M C`: a planet of a system, and the metal and crystal in its orbit, in whole units.
+/// Appends `at C OWNER M C`: a planet of a system, and the metal and crystal in its orbit, in whole units. A system lists
+/// its planets in the order of their coordinates.
 ///
-/// It fails only where memory runs out, and then appends nothing.
+/// It fails only if memory runs out, and then appends nothing.
+#[tactic(auto, unfolding(crate::specs::Words::line))]
 pub fn push_at(
+    alloc: Global,
     body: &mut Bytes,
     at: Coord,
     owner: Player,
@@ -87,13 +136,8 @@ pub fn push_at(
     ensures err { OnErr result (body.new ≡ body.old) }
 {
     push_line(
+        alloc,
         body,
-        &[
-            Word::Name("at"),
-            Word::Place(at.g, at.s, at.p),
-            Word::Number(u64::from(owner.k)),
-            Word::Number(metal),
-            Word::Number(crystal),
-        ],
+        format_args!("at {at} {owner} {metal} {crystal}"),
     )
 }

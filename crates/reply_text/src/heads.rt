@@ -8,7 +8,7 @@ use base_text::Bytes;
 use itoa::Buffer;
 use std::alloc::AllocError;
 
-/// Writes the piece at a place, and answers where it ends.
+/// Writes the piece at a place, and answers the place behind it.
 fn put(into: &mut [u8; 80], at: usize, piece: &[u8]) -> usize
     requires { at + length piece.now ≤ 80 }
     ensures end { result ≡ at + length piece.now }
@@ -19,7 +19,7 @@ fn put(into: &mut [u8; 80], at: usize, piece: &[u8]) -> usize
     end
 }
 
-/// Writes a space and the number at a place, and answers where they end.
+/// Writes a space and the number at a place, and answers the place behind them.
 fn put_number(into: &mut [u8; 80], at: usize, number: u64) -> usize
     requires { at ≤ 59 }
     ensures end { result ≤ at + 21 }
@@ -30,7 +30,7 @@ fn put_number(into: &mut [u8; 80], at: usize, number: u64) -> usize
     put(into, start, buffer.format(number).as_bytes())
 }
 
-/// Writes the first line of a reply, with its line feed, to the front of `into`, and answers its length.
+/// Writes the first line of a reply, with its line feed, to the front of `into`. It answers the length of the line.
 ///
 /// It is `ok N M` or `no N M CODE`. It takes no memory.
 #[tactic(auto, unfolding(crate::specs::Words::line))]
@@ -64,8 +64,8 @@ fn put_refusal(into: &mut [u8; 80], word: &[u8], number: u64) -> usize
     put(into, end, b"\n")
 }
 
-/// Writes the line that answers where there is no reply, with its line feed, to the front of `into`, and answers its
-/// length.
+/// Writes the line that answers a request that has no reply, with its line feed, to the front of `into`. It answers the
+/// length of the line.
 ///
 /// It is `full COUNT`, `fault N` or `memory`. It takes no memory.
 #[tactic(auto, unfolding(crate::specs::Words::line))]
@@ -80,7 +80,7 @@ pub fn refused(r: &Refused, into: &mut [u8; 80]) -> usize
     }
 }
 
-/// Appends the text of a reply. Where it fails, a front of it may have been appended.
+/// Appends the text of a reply. If it fails, a front of the text may have been appended.
 #[tactic(auto, unfolding(crate::specs::Heads::text, crate::specs::Words::line))]
 fn push_reply(out: &mut Bytes, r: &Reply) -> Result<(), AllocError>
     ensures ok { OnOk result (out.new ≡ out.old ++ text r.now) }
@@ -98,7 +98,7 @@ fn push_reply(out: &mut Bytes, r: &Reply) -> Result<(), AllocError>
 
 /// Appends the text of a reply: its head, its body and, with code 0, the line `.`.
 ///
-/// It fails only where memory runs out, and then appends nothing.
+/// It fails only if memory runs out, and then appends nothing.
 pub fn write_reply(out: &mut Bytes, r: &Reply) -> Result<(), AllocError>
     ensures ok { OnOk result (out.new ≡ out.old ++ text r.now) }
     ensures err { OnErr result (out.new ≡ out.old) }

@@ -1,15 +1,14 @@
-ghost use Rattle.std.specs.Prelude.{◌≡◌, ◌<◌, ◌++◌, OnErr, OnOk, length, slice_index, take};
+ghost use Rattle.std.specs.Prelude.{◌≡◌, ◌<◌, ◌++◌, IfOk, OnErr, OnOk, length, slice_index, string_bytes};
 ghost use Rattle.reply_text.specs.Words.{kind_line, kind_lines};
 ghost use Rattle.reply_text.specs.Numbers.{numbers_of};
 
-use crate::words::{Word, push_line};
 use base_text::Bytes;
 use catalog::Kind;
-use std::alloc::AllocError;
+use std::alloc::{AllocError, Global};
 
 /// A number for each of some kinds.
 #[derive(Clone, Copy)]
-pub enum Numbers<'a> {
+pub(crate) enum Numbers<'a> {
     /// Levels, or settings.
     Levels(&'a [u8]),
     /// Counts of units.
@@ -27,50 +26,48 @@ fn number_at(numbers: Numbers, place: usize) -> u64
     }
 }
 
-/// Appends `LABEL NAME N`, or nothing where the number is the usual one. It fails only where memory runs out, and then
-/// appends nothing.
+/// Appends the line `LABEL NAME N`, or nothing if the number is the usual one.
+#[tactic(auto, unfolding(crate::specs::Words::line))]
 fn push_kind(
-    body: &mut Bytes,
-    label: &'static str,
+    text: &mut String,
+    label: &str,
     usual: u64,
     kind: Kind,
     number: u64,
 ) -> Result<(), AllocError>
-    ensures ok { OnOk result (body.new ≡ body.old ++ kind_line label.now usual kind number) }
-    ensures err { OnErr result (body.new ≡ body.old) }
+    ensures { OnOk result (string_bytes text.new
+        ≡ string_bytes text.old ++ kind_line label.now usual kind number) }
 {
     if number == usual {
         return Ok(());
     }
-    push_line(
-        body,
-        &[Word::Name(label), Word::OfKind(kind), Word::Number(number)],
-    )
+    writeln!(text, "{label} {kind} {number}")
 }
 
-/// Appends that line for each kind with its number. Where it fails, a front of this may have been appended.
-#[tactic(auto, unfolding(crate::specs::Words::kind_lines))]
-fn push_each_kind(
-    body: &mut Bytes,
-    label: &'static str,
+/// A line `LABEL NAME N` for each kind whose number isn't the usual one.
+fn kinds_text(
+    alloc: Global,
+    label: &str,
     usual: u64,
     kinds: &[Kind],
     numbers: Numbers,
-) -> Result<(), AllocError>
+) -> Result<String, AllocError>
     requires { length kinds.now ≡ length (numbers_of numbers) }
-    ensures ok { OnOk result (body.new ≡ body.old ++ kind_lines label.now usual kinds.now (numbers_of numbers.entry)) }
-    ensures err { OnErr result (take (length body.old) body.new ≡ body.old) }
+    ensures { IfOk result (λ text. string_bytes text
+        ≡ kind_lines label.now usual kinds.now (numbers_of numbers.entry)) }
 {
+    let mut text = String::new(alloc);
     'kinds: for (i, kind) in kinds.iter().enumerate() {
-        push_kind(body, label, usual, *kind, number_at(numbers, i))?;
+        push_kind(&mut text, label, usual, *kind, number_at(numbers, i))?;
     }
-    Ok(())
+    Ok(text)
 }
 
-/// Appends that line for each kind with its number. It fails only where memory runs out, and then appends nothing.
-pub fn push_kinds(
+/// Appends those lines. It fails only if memory runs out, and then appends nothing.
+pub(crate) fn push_kinds(
+    alloc: Global,
     body: &mut Bytes,
-    label: &'static str,
+    label: &str,
     usual: u64,
     kinds: &[Kind],
     numbers: Numbers,
@@ -79,10 +76,6 @@ pub fn push_kinds(
     ensures ok { OnOk result (body.new ≡ body.old ++ kind_lines label.now usual kinds.now (numbers_of numbers.entry)) }
     ensures err { OnErr result (body.new ≡ body.old) }
 {
-    let start = body.len();
-    let pushed = push_each_kind(body, label, usual, kinds, numbers);
-    if pushed.is_err() {
-        body.truncate(start);
-    }
-    pushed
+    let text = kinds_text(alloc, label, usual, kinds, numbers)?;
+    body.push(text.as_bytes())
 }

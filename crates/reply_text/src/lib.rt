@@ -1,12 +1,13 @@
 //! Replies: the lines that answer a request, each appended to a body, and the text of a whole reply.
 //!
-//! Each writer of a line appends it whole, or fails for want of memory and appends nothing.
+//! Each writer of a line appends it whole, or it fails because memory ran out, and appends nothing.
 #![tactic(auto)]
 
 mod account_lines;
 mod fleet_lines;
 mod heads;
 mod kind_lines;
+mod lines;
 mod order_lines;
 mod planet_lines;
 mod queue_lines;
@@ -14,7 +15,6 @@ mod reply;
 #[cfg(test)]
 mod tests;
 mod units;
-mod words;
 
 pub use account_lines::{AccountHead, push_account, push_own_planet, push_technologies};
 pub use fleet_lines::{FleetLine, Stage, push_at, push_fleet};

@@ -1,8 +1,8 @@
 use base_text::Bytes;
 
-/// The reply to a request: its number, and the moment, a second, at which it acted.
+/// The reply to a request: the request's number, and the second at which it acted.
 ///
-/// `code` is 0 where the request was granted, and `body` then has its lines; else it is the code of the first
+/// If the request was granted, `code` is 0 and `body` has the lines that answer it. Else `code` is that of the first
 /// refusal that holds, and there is no line.
 #[derive(Debug, Drop)]
 pub struct Reply {
@@ -17,7 +17,7 @@ pub struct Reply {
 pub enum Refused {
     /// The history takes no more entries: it has `count` of them. Nothing has changed.
     Full { count: u64 },
-    /// The request has this number and acts, and a device failed before it was kept.
+    /// The request has this number and acts, but a device failed before the request was kept.
     DeviceFault { number: u64 },
     /// Memory ran out. Nothing has changed.
     Memory,

@@ -8,7 +8,7 @@ use crate::{
 };
 use base_ids::{Coord, Player};
 use base_text::Bytes;
-use catalog::{Building, Kind, Mission, Ships, Technology, Unit};
+use catalog::{Kind, Mission};
 use std::test::Fail;
 
 const LOW: Coord = Coord { g: 1, s: 1, p: 1 };
@@ -72,7 +72,7 @@ fn writes_the_head_of_a_planet(rt: HostRuntime) -> Result<(), Fail> {
             fields,
             used,
         };
-        push_planet(&mut body, planet)?;
+        push_planet(rt.alloc(), &mut body, planet)?;
         assert!(rt; body.as_slice() == want);
     }
     Ok(())
@@ -81,23 +81,23 @@ fn writes_the_head_of_a_planet(rt: HostRuntime) -> Result<(), Fail> {
 #[test]
 fn writes_what_a_planet_has(rt: HostRuntime) -> Result<(), Fail> {
     let mut body = Bytes::new(rt.alloc());
-    push_stock(&mut body, SOME)?;
-    push_stock(&mut body, NONE)?;
-    push_hourly(&mut body, SOME)?;
-    push_limit(&mut body, SOME)?;
+    push_stock(rt.alloc(), &mut body, SOME)?;
+    push_stock(rt.alloc(), &mut body, NONE)?;
+    push_hourly(rt.alloc(), &mut body, SOME)?;
+    push_limit(rt.alloc(), &mut body, SOME)?;
     assert!(rt;
         body.as_slice()
             == b"stock 520 51 7\nstock 0 0 0\nhourly 520 51 7\nlimit 520 51 7\n".as_slice()
     );
     body.clear();
-    push_limit(&mut body, MOST)?;
+    push_limit(rt.alloc(), &mut body, MOST)?;
     assert!(rt;
         body.as_slice()
             == b"limit 18446744073709551615 18446744073709551615 18446744073709551615\n".as_slice()
     );
     body.clear();
-    push_energy(&mut body, 22, u64::MAX)?;
-    push_debris(&mut body, u64::MAX, 300)?;
+    push_energy(rt.alloc(), &mut body, 22, u64::MAX)?;
+    push_debris(rt.alloc(), &mut body, u64::MAX, 300)?;
     assert!(rt;
         body.as_slice()
             == b"energy 22 18446744073709551615\ndebris 18446744073709551615 300\n".as_slice()
@@ -122,7 +122,7 @@ fn lists_buildings_by_their_numbers(rt: HostRuntime) -> Result<(), Fail> {
     let mut body = Bytes::new(rt.alloc());
     for (levels, want) in cases {
         body.clear();
-        push_levels(&mut body, &levels)?;
+        push_levels(rt.alloc(), &mut body, &levels)?;
         assert!(rt; body.as_slice() == want);
     }
     Ok(())
@@ -142,7 +142,7 @@ fn lists_settings_other_than_10(rt: HostRuntime) -> Result<(), Fail> {
     let mut body = Bytes::new(rt.alloc());
     for (settings, want) in cases {
         body.clear();
-        push_settings(&mut body, &settings)?;
+        push_settings(rt.alloc(), &mut body, &settings)?;
         assert!(rt; body.as_slice() == want);
     }
     Ok(())
@@ -189,7 +189,7 @@ fn lists_units_by_their_numbers(rt: HostRuntime) -> Result<(), Fail> {
     let mut body = Bytes::new(rt.alloc());
     for (counts, want) in cases {
         body.clear();
-        push_units(&mut body, &counts)?;
+        push_units(rt.alloc(), &mut body, &counts)?;
         assert!(rt; body.as_slice() == want);
     }
     Ok(())
@@ -211,7 +211,7 @@ fn lists_technologies_by_their_numbers(rt: HostRuntime) -> Result<(), Fail> {
     let mut body = Bytes::new(rt.alloc());
     for (levels, want) in cases {
         body.clear();
-        push_technologies(&mut body, &levels)?;
+        push_technologies(rt.alloc(), &mut body, &levels)?;
         assert!(rt; body.as_slice() == want);
     }
     Ok(())
@@ -220,68 +220,53 @@ fn lists_technologies_by_their_numbers(rt: HostRuntime) -> Result<(), Fail> {
 #[test]
 fn writes_the_queues_of_a_planet(rt: HostRuntime) -> Result<(), Fail> {
     let mut body = Bytes::new(rt.alloc());
-    let building = Building {
-        kind: Kind::DeuteriumSynth,
-    };
-    let unit = Unit {
-        kind: Kind::LargeDome,
-    };
     push_building(
+        rt.alloc(),
         &mut body,
         RunningBuilding {
             number: 5,
-            building,
+            kind: Kind::DeuteriumSynth,
             level: 12,
             second: 3600,
         },
     )?;
     push_building(
+        rt.alloc(),
         &mut body,
         RunningBuilding {
             number: u64::MAX,
-            building,
+            kind: Kind::DeuteriumSynth,
             level: 255,
             second: u64::MAX,
         },
     )?;
-    push_waiting_building(
-        &mut body,
-        6,
-        Building {
-            kind: Kind::MetalMine,
-        },
-    )?;
+    push_waiting_building(rt.alloc(), &mut body, 6, Kind::MetalMine)?;
     assert!(rt;
         body.as_slice()
             == b"building 5 deuteriumsynth 12 3600\nbuilding 18446744073709551615 deuteriumsynth 255 18446744073709551615\nwaiting 6 metalmine\n".as_slice()
     );
     body.clear();
     push_yard(
+        rt.alloc(),
         &mut body,
         RunningBatch {
             number: 7,
-            unit,
+            kind: Kind::LargeDome,
             left: 9,
             second: 100,
         },
     )?;
     push_yard(
+        rt.alloc(),
         &mut body,
         RunningBatch {
             number: 0,
-            unit,
+            kind: Kind::LargeDome,
             left: u32::MAX,
             second: 0,
         },
     )?;
-    push_yard_waiting(
-        &mut body,
-        8,
-        Unit {
-            kind: Kind::Satellite,
-        },
-        100_000,
-    )?;
+    push_yard_waiting(rt.alloc(), &mut body, 8, Kind::Satellite, 100_000)?;
     assert!(rt;
         body.as_slice()
             == b"yard 7 largedome 9 100\nyard 0 largedome 4294967295 0\nyardwaiting 8 satellite 100000\n".as_slice()
@@ -292,10 +277,8 @@ fn writes_the_queues_of_a_planet(rt: HostRuntime) -> Result<(), Fail> {
 #[test]
 fn writes_an_account(rt: HostRuntime) -> Result<(), Fail> {
     let mut body = Bytes::new(rt.alloc());
-    let technology = Technology {
-        kind: Kind::Hyperspace,
-    };
     push_account(
+        rt.alloc(),
         &mut body,
         AccountHead {
             player: Player { k: 3 },
@@ -305,6 +288,7 @@ fn writes_an_account(rt: HostRuntime) -> Result<(), Fail> {
         },
     )?;
     push_account(
+        rt.alloc(),
         &mut body,
         AccountHead {
             player: Player { k: 65535 },
@@ -313,30 +297,24 @@ fn writes_an_account(rt: HostRuntime) -> Result<(), Fail> {
             slots: 21,
         },
     )?;
-    push_own_planet(&mut body, HIGH)?;
+    push_own_planet(rt.alloc(), &mut body, HIGH)?;
     assert!(rt;
         body.as_slice()
             == b"account 3 40 0 1\naccount 65535 4294967295 17 21\nplanet 9:499:15\n".as_slice()
     );
     body.clear();
     push_research(
+        rt.alloc(),
         &mut body,
         RunningResearch {
             number: 4,
-            technology,
+            kind: Kind::Hyperspace,
             level: 6,
             second: 77,
             at: MIDDLE,
         },
     )?;
-    push_waiting_research(
-        &mut body,
-        9,
-        Technology {
-            kind: Kind::Graviton,
-        },
-        LOW,
-    )?;
+    push_waiting_research(rt.alloc(), &mut body, 9, Kind::Graviton, LOW)?;
     assert!(rt;
         body.as_slice()
             == b"research 4 hyperspace 6 77 2:30:4\nwaiting 9 graviton 1:1:1\n".as_slice()
@@ -382,7 +360,6 @@ fn writes_fleets(rt: HostRuntime) -> Result<(), Fail> {
     ];
     let mut body = Bytes::new(rt.alloc());
     for (number, mission, stage, cargo, n, want) in cases {
-        assert!(rt; n.iter().all(|count| *count <= 100_000) && n.iter().any(|count| 0 < *count));
         body.clear();
         let fleet = FleetLine {
             number,
@@ -393,9 +370,9 @@ fn writes_fleets(rt: HostRuntime) -> Result<(), Fail> {
             stage,
             second: 500,
             cargo,
-            ships: Ships { n },
+            ships: n,
         };
-        push_fleet(&mut body, &fleet)?;
+        push_fleet(rt.alloc(), &mut body, &fleet)?;
         assert!(rt; body.as_slice() == want);
     }
     Ok(())
@@ -404,18 +381,25 @@ fn writes_fleets(rt: HostRuntime) -> Result<(), Fail> {
 #[test]
 fn writes_systems_and_orders(rt: HostRuntime) -> Result<(), Fail> {
     let mut body = Bytes::new(rt.alloc());
-    push_at(&mut body, MIDDLE, Player { k: 12 }, 300, 0)?;
-    push_at(&mut body, HIGH, Player { k: 65535 }, u64::MAX, u64::MAX)?;
+    push_at(rt.alloc(), &mut body, MIDDLE, Player { k: 12 }, 300, 0)?;
+    push_at(
+        rt.alloc(),
+        &mut body,
+        HIGH,
+        Player { k: 65535 },
+        u64::MAX,
+        u64::MAX,
+    )?;
     assert!(rt;
         body.as_slice()
             == b"at 2:30:4 12 300 0\nat 9:499:15 65535 18446744073709551615 18446744073709551615\n".as_slice()
     );
     body.clear();
-    push_starts(&mut body, 3, 7200)?;
-    push_starts(&mut body, 100_000, u64::MAX)?;
-    push_waits(&mut body, 5)?;
-    push_arrives(&mut body, 4000, 21)?;
-    push_back(&mut body, 4001)?;
+    push_starts(rt.alloc(), &mut body, 3, 7200)?;
+    push_starts(rt.alloc(), &mut body, 100_000, u64::MAX)?;
+    push_waits(rt.alloc(), &mut body, 5)?;
+    push_arrives(rt.alloc(), &mut body, 4000, 21)?;
+    push_back(rt.alloc(), &mut body, 4001)?;
     assert!(rt;
         body.as_slice()
             == b"starts 3 7200\nstarts 100000 18446744073709551615\nwaits 5\narrives 4000 fuel 21\nback 4001\n".as_slice()
@@ -498,18 +482,18 @@ fn writes_whole_replies(rt: HostRuntime) -> Result<(), Fail> {
 }
 
 #[test]
-fn keeps_the_body_where_memory_runs_out(rt: HostRuntime) -> Result<(), Fail> {
+fn keeps_the_body_if_memory_runs_out(rt: HostRuntime) -> Result<(), Fail> {
     let mut body = Bytes::new(rt.alloc());
     for _ in 0..40 {
         let before = body.len();
-        if push_levels(&mut body, &[7; 11]).is_err() {
+        if push_levels(rt.alloc(), &mut body, &[7; 11]).is_err() {
             assert_eq!(rt; body.len(), before);
-            push_levels(&mut body, &[7; 11])?;
+            push_levels(rt.alloc(), &mut body, &[7; 11])?;
         }
         let before = body.len();
-        if push_own_planet(&mut body, HIGH).is_err() {
+        if push_own_planet(rt.alloc(), &mut body, HIGH).is_err() {
             assert_eq!(rt; body.len(), before);
-            push_own_planet(&mut body, HIGH)?;
+            push_own_planet(rt.alloc(), &mut body, HIGH)?;
         }
     }
     let mut out = Bytes::new(rt.alloc());

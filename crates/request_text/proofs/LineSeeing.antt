@@ -7,7 +7,7 @@ use Rattle.base_text.specs.Parts.{Lacks}
 use Rattle.base_text.proofs.Lacking.{lacks-append, lacks-nil}
 use Rattle.base_text.proofs.Splitting.{lines-join, lines-last, parts-one}
 use Rattle.request_text.specs.Feeds.{IsFirstFeed}
-use Rattle.request_text.specs.LineReading.{told, kept, HasEnded, IsFront, Sees, Follows, Stays, Tells, advance, ahead, taken}
+use Rattle.request_text.specs.LineReading.{answered_line, kept, HasEnded, IsFront, Sees, Follows, Stays, Tells, advance, ahead, taken}
 use Rattle.request_text.specs.LineSteps.{Answers}
 use Rattle.request_text.specs.declared.line_reader.LineReader.{LineReader}
 use Rattle.request_text.specs.declared.line_reader.Stage.TheVariants.{Open}
@@ -94,7 +94,7 @@ pub tells-cut : (old new : LineReader) (place count : ℕ) (result : Line) → I
 tells-cut old new place count (Text n) feed same many within answers behind short open_yet left =
     λ text seen.
     let none = no-front old.long seen.front seen.passed answers.1 in
-    let line : strip_carriage_return (seen.front ++ take place (kept old)) ≡ told new =
+    let line : strip_carriage_return (seen.front ++ take place (kept old)) ≡ answered_line new =
     ap (λ f. strip_carriage_return (f ++ take place (kept old))) none ∙ sym same ∙ take-take count place (kept old) within ∙ sym answers.2 in
     subst (Follows new left text) line (follows-cut old new left text place seen feed behind short open_yet)
 tells-cut old new place count Long feed same many within answers behind short open_yet left =
@@ -135,7 +135,7 @@ pub tells-last : (old new : LineReader) (count : ℕ) (result : Line) → Lacks 
 tells-last old new count (Text n) free many some answers behind short over =
     λ text seen.
     let none = no-front old.long seen.front seen.passed answers.1 in
-    let line : seen.front ++ kept old ≡ told new = ap (λ f. f ++ kept old) none ∙ sym (take_all count (kept old) (omega arith)) ∙ sym answers.2 in
+    let line : seen.front ++ kept old ≡ answered_line new = ap (λ f. f ++ kept old) none ∙ sym (take_all count (kept old) (omega arith)) ∙ sym answers.2 in
     let much : 0 < length (seen.front ++ kept old) = let all = length-append seen.front (kept old) in let here = some answers.1 in omega (arith, all, here) in
     subst (Follows new [] text) line (follows-last old new text seen free much (behind ∙ drop_all count (kept old) (omega arith)) short over)
 tells-last old new count Long free many some answers behind short over =

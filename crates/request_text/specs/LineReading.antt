@@ -15,9 +15,9 @@ use Rattle.request_text.specs.declared.line_reader.Stop.{Stop}
 use Rattle.request_text.specs.declared.line_reader.Stop.TheVariants.{Fault as AtFault, Spent as AtBound}
 use Rattle.request_text.specs.declared.line_reader.Line.TheVariants.{Text, Long, End, Fault, Spent}
 
--- the line that was answered last, where the last answer was a text; else no bytes
-abbrev pub told : LineReader → List ℕ
-told reader = take reader.line (items reader.window)
+-- the line that was answered last, if the last answer was a text; else no bytes
+abbrev pub answered_line : LineReader → List ℕ
+answered_line reader = take reader.line (items reader.window)
 
 -- the bytes that were taken from a source, and that no answer stands for
 abbrev pub kept : LineReader → List ℕ
@@ -69,7 +69,7 @@ Stays old left new more = (text : List ℕ) → Sees old left text → Sees new 
 
 -- which bytes an answer stands for, for every text that was seen
 abbrev pub Tells : LineReader → List ℕ → LineReader → List ℕ → Line → Type 0
-Tells old left new more (Text n) = (text : List ℕ) → Sees old left text → Follows new more text (told new)
+Tells old left new more (Text n) = (text : List ℕ) → Sees old left text → Follows new more text (answered_line new)
 Tells old left new more Long = (text : List ℕ) → Sees old left text → (line : List ℕ) × (LONGEST_LINE < length line) × Follows new more text line
 Tells old left new more End = (text : List ℕ) → Sees old left text → (text ≡ []) × (more ≡ [])
 Tells old left new more Fault = Stays old left new more
@@ -85,11 +85,11 @@ IsSpent reader = reader.stage ≡ Exhausted
 
 -- what is known of the reader after an answer
 abbrev pub Leaves : LineReader → Line → Type 0
-Leaves new (Text n) = (length (told new) ≡ n) × (n ≤ LONGEST_LINE)
-Leaves new Long = told new ≡ []
-Leaves new End = IsOver new × (told new ≡ []) × (taken new < MOST_TAKEN)
-Leaves new Fault = (told new ≡ []) × (taken new < MOST_TAKEN) × Lacks 10 (kept new)
-Leaves new Spent = IsSpent new × (told new ≡ []) × (taken new ≡ MOST_TAKEN) × Lacks 10 (kept new)
+Leaves new (Text n) = (length (answered_line new) ≡ n) × (n ≤ LONGEST_LINE)
+Leaves new Long = answered_line new ≡ []
+Leaves new End = IsOver new × (answered_line new ≡ []) × (taken new < MOST_TAKEN)
+Leaves new Fault = (answered_line new ≡ []) × (taken new < MOST_TAKEN) × Lacks 10 (kept new)
+Leaves new Spent = IsSpent new × (answered_line new ≡ []) × (taken new ≡ MOST_TAKEN) × Lacks 10 (kept new)
 
 -- a fact of what a source had left and what it has left now, where the source tells
 abbrev pub Known : Option (List ℕ) → Option (List ℕ) → (List ℕ → List ℕ → Type 0) → Type 0

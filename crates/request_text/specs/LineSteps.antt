@@ -2,7 +2,7 @@
 use Rattle.std.specs.Prelude.{◌≡◌, ℕ, ◌<◌, ◌⊎◌, true, false, List, take, Option}
 use Rattle.std.specs.Io.KnownBytes.{IsAtEnd}
 use Rattle.ports.specs.Causes.{Rose}
-use Rattle.request_text.specs.LineReading.{told, kept, taken, HasEnded, Leaves}
+use Rattle.request_text.specs.LineReading.{answered_line, kept, taken, Leaves}
 use Rattle.request_text.specs.declared.line_reader.TheConstants.{LONGEST_LINE, MOST_TAKEN}
 use Rattle.request_text.specs.declared.line_reader.LineReader.{LineReader}
 use Rattle.request_text.specs.declared.line_reader.Stage.TheVariants.{Open}
@@ -26,7 +26,7 @@ Refills old new left before after Full = (after ≡ before) × Leaves new Spent
 
 -- the line that ends in the first so many bytes that are kept is a text or is long
 abbrev pub Answers : LineReader → ℕ → LineReader → Line → Type 0
-Answers old count new (Text n) = (n ≡ count) × (old.long ≡ false) × (told new ≡ take count (kept old))
+Answers old count new (Text n) = (n ≡ count) × (old.long ≡ false) × (answered_line new ≡ take count (kept old))
 Answers old count new Long = (old.long ≡ true) ⊎ (LONGEST_LINE < count)
 Answers old count new End = ⊥
 Answers old count new Fault = ⊥

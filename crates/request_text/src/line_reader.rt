@@ -115,14 +115,14 @@ pub struct LineReader {
 
 impl LineReader {
     ghost use Rattle.request_text.specs.Feeds.{IsFirstFeed};
-    ghost use Rattle.request_text.specs.LineReading.{told, kept, taken, HasEnded, Sees, Stays, Tells, IsOver, IsSpent, Leaves, Known, advance, ahead};
+    ghost use Rattle.request_text.specs.LineReading.{answered_line, kept, taken, HasEnded, Sees, Stays, Tells, IsOver, IsSpent, Leaves, Known, advance, ahead};
     ghost use Rattle.request_text.specs.LineSteps.{Refills, Answers, IsReading};
 
     /// A reader that has taken no byte yet, with all the memory that it needs.
     pub fn new(alloc: Global) -> Result<LineReader, AllocError>
         ensures sees { IfOk result (λ r. (left : List ℕ) → Sees r left left) }
         ensures only { IfOk result (λ r. (left text : List ℕ) → Sees r left text → text ≡ left) }
-        ensures told { IfOk result (λ r. told r ≡ []) }
+        ensures told { IfOk result (λ r. answered_line r ≡ []) }
         ensures taken { IfOk result (λ r. taken r ≡ 0) }
         ensures ahead { IfOk result (λ r. ahead r ≡ MOST_TAKEN) }
     {
@@ -139,7 +139,7 @@ impl LineReader {
 
     /// The line that was answered last, where the last answer was a text. Else no bytes.
     pub fn line(&self) -> &[u8]
-        ensures { result.now ≡ told self.now }
+        ensures { result.now ≡ answered_line self.now }
     {
         &self.window.as_slice()[..self.line]
     }

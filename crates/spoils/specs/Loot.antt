@@ -1,5 +1,6 @@
 -- What winners load of a planet's stocks, step by step. Rule: docs/RULES.md, "Loot".
-use Rattle.std.specs.Prelude.{ℕ, ◌-◌, ◌/◌, min}
+use Rattle.std.specs.Prelude.{ℕ, ◌+◌, ◌-◌, ◌/◌, ◌≡◌, min}
+use Rattle.catalog.specs.declared.amounts.Amounts.{Amounts}
 use Rattle.spoils.specs.Shares.{IsShare}
 
 -- units that are loaded in each step, in the order of the steps
@@ -33,3 +34,11 @@ pub record IsLoading (room metal crystal deuterium : ℕ) (steps : Loading) : Ty
   pub first_deuterium : IsShare (room - steps.first_metal - steps.first_crystal) 1 deuterium steps.first_deuterium
   pub second_metal : IsShare (room - steps.first_metal - steps.first_crystal - steps.first_deuterium) 2 (metal - steps.first_metal) steps.second_metal
   pub second_crystal : IsShare (room - steps.first_metal - steps.first_crystal - steps.first_deuterium - steps.second_metal) 1 (crystal - steps.first_crystal) steps.second_crystal
+
+-- what is loaded in all, into this room, of what may be taken: it is what some such steps load together
+pub record Loads (room : ℕ) (may loaded : Amounts) : Type 0 where
+  pub steps : Loading
+  pub shares : IsLoading room may.m may.c may.d steps
+  pub metal : loaded.m ≡ steps.first_metal + steps.second_metal
+  pub crystal : loaded.c ≡ steps.first_crystal + steps.second_crystal
+  pub deuterium : loaded.d ≡ steps.first_deuterium

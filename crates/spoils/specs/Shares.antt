@@ -2,8 +2,8 @@
 -- "Harvest".
 use Rattle.std.specs.Prelude.{ℕ, ◌+◌, ◌*◌, ◌≤◌, ◌<◌}
 
--- taken is the share of one of so many equal parts: no more than is there, no more than the part, and one more would
--- be too much for the part where more is there
+-- taken is the share of one of so many equal parts: no more than is there, no more than the part, and if more is there,
+-- one more would be too much for the part
 pub record IsShare (room parts there taken : ℕ) : Type 0 where
   pub within : taken ≤ there
   pub fits : taken * parts ≤ room

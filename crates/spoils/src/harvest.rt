@@ -1,5 +1,5 @@
 ghost use Rattle.std.specs.Prelude.{◌≡◌, ◌+◌, ◌≤◌, min};
-ghost use Rattle.spoils.specs.Harvest.{IsScraping, scraping};
+ghost use Rattle.spoils.specs.Harvest.{Scrapes, scraping};
 
 use crate::share::share;
 use catalog::Amounts;
@@ -12,7 +12,7 @@ pub fn scrape(room: u64, debris: Amounts) -> Amounts
         result.m ≡ steps.first_metal + steps.second_metal }
     ensures crystal { result.c ≡ (scraping room debris.m debris.c).first_crystal }
     ensures deuterium { result.d ≡ 0 }
-    ensures bounds { IsScraping room debris.m debris.c (scraping room debris.m debris.c) }
+    ensures steps { Scrapes room debris result }
 
     // Nothing is taken that is not there.
     ensures metal_within { result.m ≤ debris.m }

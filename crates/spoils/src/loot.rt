@@ -1,5 +1,5 @@
 ghost use Rattle.std.specs.Prelude.{◌≡◌, ◌+◌, ◌-◌, ◌*◌, ◌/◌, ◌<◌, ◌≤◌};
-ghost use Rattle.spoils.specs.Loot.{IsLoading, loading};
+ghost use Rattle.spoils.specs.Loot.{Loads, loading};
 
 use crate::share::share;
 use catalog::Amounts;
@@ -15,7 +15,7 @@ pub fn load(room: u64, may: Amounts) -> Amounts
     ensures crystal { let steps = loading room may.m may.c may.d in
         result.c ≡ steps.first_crystal + steps.second_crystal }
     ensures deuterium { result.d ≡ (loading room may.m may.c may.d).first_deuterium }
-    ensures bounds { IsLoading room may.m may.c may.d (loading room may.m may.c may.d) }
+    ensures steps { Loads room may result }
 
     // Nothing is taken that may not be, and no more than there is room.
     ensures metal_within { result.m ≤ may.m }
@@ -23,11 +23,12 @@ pub fn load(room: u64, may: Amounts) -> Amounts
     ensures deuterium_within { result.d ≤ may.d }
     ensures room { result.m + result.c + result.d ≤ room }
 
-    // Where room stays free, all crystal and all deuterium are taken.
+    // If room stays free, all crystal and all deuterium are taken.
     ensures all_crystal { result.m + result.c + result.d < room → result.c ≡ may.c }
     ensures all_deuterium { result.m + result.c + result.d < room → result.d ≡ may.d }
 
-    // Where metal stays behind, it has at least two thirds, floored, of the room that crystal and deuterium leave.
+    // If metal stays behind, the metal that is taken fills at least two thirds, floored, of the room that crystal and
+    // deuterium leave.
     ensures most_metal { result.m < may.m → 2 * (room - (result.c + result.d)) / 3 ≤ result.m }
 {
     let first_metal = share(room, 3, may.m);

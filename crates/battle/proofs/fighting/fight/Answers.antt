@@ -3,10 +3,11 @@ use Rattle.battle.specs.declared.combatant.Combatant.{Combatant}
 use Rattle.battle.specs.declared.part.Part.{Part}
 use Rattle.battle.specs.Course.{fighters_of, unhurt}
 use Rattle.battle.specs.Outcomes.{survivors, verdict_of}
-use Rattle.battle.specs.Sides.{IsSide, MOST_UNITS, fighters}
+use Rattle.battle.specs.Sides.{IsSide, fighters}
+use Rattle.battle.specs.declared.limits.TheConstants.{MOST_UNITS}
 use Rattle.battle.proofs.Again.{still_side}
 use Rattle.std.proofs.lemmas.List.{length-map}
-use Rattle.battle.proofs.Ends.{ends}
+use Rattle.battle.proofs.Fought.{fought_by_rounds}
 use Rattle.battle.proofs.fighting.fight.Goals as goal
 
 pub returns-clause-ok : goal.returns-clause-ok
@@ -15,7 +16,7 @@ returns-clause-ok c =
     let planet = c.fight_rounds-rounds.new.planet in
     let attackers_len : c.len.result ≡ length attackers.items = c.len.ensures ∙ sym c.deref.ensures.len ∙ ap (λ (cs : List Combatant). length cs) c.deref.ensures.value in
     let planet_len : c.len-2.result ≡ length planet.items = c.len-2.ensures ∙ sym c.deref-2.ensures.len ∙ ap (λ (cs : List Combatant). length cs) c.deref-2.ensures.value in
-    ends c.args.att.now c.args.def.now c.keep.new.self c.keep-2.new.self c.args.seed c.args.number c.fight_rounds-rounds.result
+    fought_by_rounds c.args.att.now c.args.def.now c.keep.new.self c.keep-2.new.self c.args.seed c.args.number c.fight_rounds-rounds.result
     c.in_ok-attackers.attackers.items c.in_ok-planet.planet.items attackers.items planet.items c.new-draws.result c.fight_rounds-rounds.new.draws c.verdict-verdict.result
     (c.in_ok-attackers.ensures ∙ ap (λ (ps : List Part). map unhurt (fighters ps)) c.as_slice.ensures)
     (c.in_ok-planet.ensures ∙ ap (λ (ps : List Part). map unhurt (fighters ps)) c.as_slice-2.ensures)

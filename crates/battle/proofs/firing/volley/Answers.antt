@@ -5,8 +5,8 @@ use Rattle.battle.proofs.firing.volley.Goals as goal
 
 pub shooters-preserved : goal.shooters-preserved
 shooters-preserved c =
-    let e = volley_on c.shooters.shooter-index c.args.shooters.now c.shooters.targets c.shooters.draws _ c.turn.new.targets c.turn.new.draws
-    c.shooters-test.true c.turn.ensures.targets c.turn.ensures.words in
+    let e = volley_on c.shooters.shooter-index c.args.shooters.now c.shooters.targets c.shooters.draws _ c.take_turn.new.targets c.take_turn.new.draws
+    c.shooters-test.true c.take_turn.ensures.targets c.take_turn.ensures.words in
     record { same = e ∙ c.shooters.invariant.same }
 
 pub returns-clause-targets : goal.returns-clause-targets

@@ -3,8 +3,8 @@ use Rattle.std.proofs.lemmas.Bool.{false≢true}
 use Rattle.battle.proofs.UnitCounts.{length-rest, rest_of}
 use Rattle.battle.proofs.ready.is_within_limit.Goals as goal
 
-pub returns-then-units-gt-UNIT_LIMIT : goal.returns-then-units-gt-UNIT_LIMIT
-returns-then-units-gt-UNIT_LIMIT c =
+pub returns-then-units-gt-MOST_UNITS : goal.returns-then-units-gt-MOST_UNITS
+returns-then-units-gt-MOST_UNITS c =
     let i = c.parts.part-index in
     let later = length (rest_of (i + 1) (drop (i + 1) c.args.parts.now)) in
     let e : length (rest_of i (drop i c.args.parts.now)) ≡ c.unit_count-units.result + later =

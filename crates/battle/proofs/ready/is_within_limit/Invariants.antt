@@ -1,6 +1,7 @@
 -- The units of the parts so far, and those of the parts that are left, are all units.
 use Rattle.std.proofs.Common.{◌≡◌, ◌+◌, ◌≤◌, length, drop}
-use Rattle.battle.specs.Sides.{MOST_UNITS, fighters}
+use Rattle.battle.specs.Sides.{fighters}
+use Rattle.battle.specs.declared.limits.TheConstants.{MOST_UNITS}
 use Rattle.battle.proofs.UnitCounts.{rest_of}
 use Rattle.battle.proofs.ready.is_within_limit.Given as goal
 

@@ -1,11 +1,11 @@
 use Rattle.std.proofs.Common.{◌≡◌, ℕ, ◌∙◌, ap, sym, arith}
-use Rattle.battle.proofs.RoundByRound.{field_of, rounds_end, rounds_none, rounds_on}
+use Rattle.battle.proofs.RoundByRound.{field_of, rounds_over, rounds_none, rounds_on}
 use Rattle.battle.proofs.rounds.fight_rounds.Goals as goal
 
 pub returns-then-not-both_stand-clause-course : goal.returns-then-not-both_stand-clause-course
 returns-then-not-both_stand-clause-course c =
     let field = field_of c.rounds.attackers.items c.rounds.planet.items c.rounds.draws c.rounds.round in
-    rounds_end c.rounds.round field (omega arith) (rw (← c.deref.ensures.value, ← c.deref-in-rounds.ensures.value) (sym c.both_stand.ensures ∙ c.if-not-both_stand.true)) ∙ c.rounds.invariant.same
+    rounds_over c.rounds.round field (omega arith) (rw (← c.deref.ensures.value, ← c.deref-in-rounds.ensures.value) (sym c.both_stand.ensures ∙ c.if-not-both_stand.true)) ∙ c.rounds.invariant.same
 
 pub rounds-preserved : goal.rounds-preserved
 rounds-preserved c =

@@ -1,6 +1,9 @@
-use Rattle.std.proofs.Common.{refl}
-use Rattle.battle.proofs.Counts.{added}
+use Rattle.std.proofs.Common.{rules}
+use Rattle.battle.proofs.Counts.{added, not_added}
 use Rattle.battle.proofs.survivors.add_one.Goals as goal
 
 pub returns-in-Some : goal.returns-in-Some
-returns-in-Some c = added c.args.counts.now c.in-Some.place _ _ c.requires.kinds c.in-Some.ensures.within c.in-Some.ensures.found refl
+returns-in-Some c = added c.args.part.now c.args.kind c.in-Some.place (search rules) c.in-Some.ensures.within c.in-Some.ensures.found
+
+pub returns-in_default : goal.returns-in_default
+returns-in_default c = not_added c.args.part.now c.args.kind c.in_default.ensures.none

@@ -1,12 +1,8 @@
--- The parts so far have the units that are left of them, and the others will have.
-use Rattle.std.proofs.Common.{◌≡◌, ◌++◌, map, take, drop}
-use Rattle.std.specs.List.{enumerate_from}
+-- The parts have the units that were looked at so far.
+use Rattle.std.proofs.Common.{◌≡◌, take}
 use Rattle.battle.specs.Course.{fighters_of}
 use Rattle.battle.specs.Outcomes.{survivors}
-use Rattle.battle.proofs.Counts.{left_of}
 use Rattle.battle.proofs.survivors.keep.Given as goal
 
-abbrev pub invariant-parts : goal.invariant-parts
-invariant-parts l =
-    take l.place l.side ++ map (λ placed. left_of (fighters_of l.living) placed.0 placed.1) (enumerate_from l.place (drop l.place l.side))
-    ≡ survivors (fighters_of l.living) l.initial.side
+abbrev pub invariant-living : goal.invariant-living
+invariant-living l = l.side ≡ survivors (fighters_of (take l.unit-index l.living)) l.fn.side

@@ -1,6 +1,6 @@
 use Rattle.std.proofs.Common.{◌≡◌, ℕ, List, Option, subst, rules}
 use Rattle.std.specs.Prelude.{MatchResult}
-use Rattle.request_text.specs.LineReading.{told, Follows, Sees, Tells}
+use Rattle.request_text.specs.LineReading.{answered_line, Follows, Sees, Tells}
 use Rattle.request_text.specs.declared.line_reader.Line.TheVariants.{End, Long}
 use Rattle.request_text.proofs.LineKnowing.{known-map}
 use Rattle.founding.specs.Drafts.{Drafted}
@@ -17,8 +17,8 @@ returns-in_err-told-clause-tells g c =
     let number = c.args.number in
     let stop = c.in_err-told.field-0.0 in
     known-map (left c.args.source.now) (left c.next.new.src) _
-    (λ x y. (text : List ℕ) → Sees old x text → MatchResult c.from_residual.result (λ done. Follows new y text (told new)) (λ fault. (said : Option Drafted) → Stops said number text new y fault))
-    (λ x y tells text seen. only_fault c.from_residual.result (fault_of stop) (λ done. Follows new y text (told new)) (λ fault. (said : Option Drafted) → Stops said number text new y fault) c.from_residual.ensures.1
+    (λ x y. (text : List ℕ) → Sees old x text → MatchResult c.from_residual.result (λ done. Follows new y text (answered_line new)) (λ fault. (said : Option Drafted) → Stops said number text new y fault))
+    (λ x y tells text seen. only_fault c.from_residual.result (fault_of stop) (λ done. Follows new y text (answered_line new)) (λ fault. (said : Option Drafted) → Stops said number text new y fault) c.from_residual.ensures.1
     (λ said. fault-stops said number old new x y text c.next.result stop c.in_err-told.ensures tells c.next.ensures.leaves seen))
     c.next.ensures.tells
 

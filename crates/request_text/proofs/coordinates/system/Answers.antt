@@ -1,4 +1,3 @@
-use Rattle.std.proofs.Common.{◌≡◌, ◌<◌, ◌≤◌, arith}
 use Rattle.request_text.proofs.Colons.{two_found}
 use Rattle.request_text.proofs.Tails.{if_none}
 use Rattle.request_text.proofs.coordinates.system.Goals as goal

@@ -1,5 +1,4 @@
-use Rattle.std.proofs.Common.{◌≡◌, ◌+◌, ◌<◌, ◌≤◌, [], length, arith, ap, sym, ◌∙◌, inl, inr, subst}
-use Rattle.base_text.specs.Parts.{Lacks}
+use Rattle.std.proofs.Common.{◌≡◌, ◌+◌, ◌<◌, ◌≤◌, [], length, arith, ap, sym, ◌∙◌, inr}
 use Rattle.std.proofs.lemmas.List.{get_or-take}
 use Rattle.request_text.specs.LineReading.{Stays, Tells, kept, taken}
 use Rattle.request_text.proofs.LineSeeing.{tells-later, unread-none, unread-same}
