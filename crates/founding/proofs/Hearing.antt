@@ -16,7 +16,7 @@ use Rattle.tick_model.specs.Strict.{universe_of}
 use Rattle.tick_model.specs.declared.strict.StrictUniverse.{StrictUniverse}
 use Rattle.founding.specs.Drafts.{founded, Adds, AddsNothing, Drafted, Grows}
 use Rattle.founding.specs.Founding.{IsBadNext, IsEnd, IsUnfinished}
-use Rattle.founding.specs.Indexes.{draft_of}
+use Rattle.founding.specs.DraftMaps.{draft_of}
 use Rattle.founding.specs.Lines.{heading_words}
 use Rattle.founding.specs.Reading.{fault_of, Reads, Stops}
 use Rattle.founding.specs.Steps.{fault_at, Steps}
@@ -28,7 +28,7 @@ use Rattle.founding.specs.declared.fault.LineFault.TheVariants.{Bad as BadLine, 
 use Rattle.founding.specs.declared.heading.Heading.{Heading}
 
 -- one line more
-grows-more : (start said : Option Drafted) (new : Drafted) (good : List (List ℕ)) (line : List ℕ) → Grows start good said → Adds said line new → Grows start (good ++ line ∷ []) (Some new)
+pub grows-more : (start said : Option Drafted) (new : Drafted) (good : List (List ℕ)) (line : List ℕ) → Grows start good said → Adds said line new → Grows start (good ++ line ∷ []) (Some new)
 grows-more start said new [] line same adds = (new, subst (λ (s : Option Drafted). Adds s line new) same adds, refl)
 grows-more start said new (first ∷ later) line (next, adds_first, grows) adds = (next, adds_first, grows-more (Some next) said new later line grows adds)
 

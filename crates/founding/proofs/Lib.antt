@@ -1,7 +1,7 @@
 pub mod Wording
 pub mod Putting
 pub mod Mapping
-pub mod Indexing
+pub mod Finding
 pub mod Stepping
 pub mod Forms
 pub mod Once

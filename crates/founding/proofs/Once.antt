@@ -1,10 +1,11 @@
 -- A list of lines founds one universe, or has one first bad line.
-use Rattle.std.proofs.Common.{◌≡◌, ℕ, ◌+◌, List, [], ◌∷◌, ◌++◌, length, refl, ap, ◌∙◌, sym, subst, arith, inl, inr, Option, Some, None}
+use Rattle.std.proofs.Common.{◌≡◌, ℕ, ◌+◌, ◌<◌, ◌≤◌, List, [], ◌∷◌, ◌++◌, length, refl, ap, ◌∙◌, sym, subst, arith, inl, inr, Option, Some, None, append_assoc, length-append}
 use Rattle.std.specs.Prelude.{codes, ⊤}
 use Rattle.base_text.specs.Parts.{words}
 use Rattle.tick_model.specs.Universe.{Universe}
 use Rattle.founding.specs.Drafts.{begun, founded, Adds, AddsNothing, Drafted, Grows}
-use Rattle.founding.specs.Founding.{Founds, IsBadAt, IsBadNext}
+use Rattle.founding.specs.Founding.{Founds, IsBadAt, IsBadNext, NeedsMemory, TakesMemory}
+use Rattle.founding.proofs.Hearing.{grows-more}
 use Rattle.founding.proofs.Forms.{planet_alone, player_alone}
 use Rattle.founding.proofs.Wording.{one_heading}
 
@@ -86,3 +87,28 @@ pub never_both : (lines : List (List ℕ)) (a : Universe) (script : List (List �
 never_both lines a script n p q =
     let s = stop_once None (Some p.draft) q.said p.good q.good (codes "." ∷ script) q.rest (sym p.parts ∙ q.parts) p.grows q.grows (dot_ends p.draft script) (bad_ends q.said q.rest q.bad) in
     not_end p.draft q.said q.rest script s.draft s.back q.bad
+
+-- no front that adds something is longer than the one at whose end nothing is added
+front_length : (start last last' : Option Drafted) (good good' rest rest' : List (List ℕ)) → good ++ rest ≡ good' ++ rest' → Grows start good last → Grows start good' last' → Ends last' rest' → length good ≤ length good'
+front_length start last last' [] good' rest rest' same grows grows' ends = omega arith
+front_length start last last' (line ∷ later) [] rest rest' same (next, adds, grows) grows' ends =
+    absurd (no_more last' next line rest' (later ++ rest) (sym same) ends (subst (λ (d : Option Drafted). Adds d line next) (sym grows') adds))
+front_length start last last' (line ∷ later) (line' ∷ later') rest rest' same (next, adds, grows) (next', adds', grows') ends =
+    let first : line' ≡ line = cc in
+    let others : later ++ rest ≡ later' ++ rest' = cc in
+    let one : next' ≡ next = adds_once start line next' next (subst (λ (l : List ℕ). Adds start l next') first adds') adds in
+    let shorter = front_length (Some next) last last' later later' rest rest' others grows (subst (λ (d : Drafted). Grows (Some d) later' last') one grows') ends in
+    omega (arith, shorter)
+
+one_more : (said : Option Drafted) (good : List (List ℕ)) (line : List ℕ) → Grows None good said → TakesMemory said line → (last : Option Drafted) × Grows None (good ++ line ∷ []) last
+one_more None good line grows takes = absurd takes
+one_more (Some draft) good line grows takes = (Some takes.0, grows-more None (Some draft) takes.0 good line grows takes.1)
+
+-- memory runs out before the first bad line
+pub memory_first : (lines later : List (List ℕ)) (n : ℕ) (needs : NeedsMemory lines later) → IsBadAt lines n → length needs.good + 1 < n
+memory_first lines later n needs bad =
+    let more = one_more needs.said needs.good needs.line needs.grows needs.adds in
+    let same : (needs.good ++ needs.line ∷ []) ++ later ≡ bad.good ++ bad.rest = append_assoc needs.good (needs.line ∷ []) later ∙ sym needs.parts ∙ bad.parts in
+    let most = front_length None more.0 bad.said (needs.good ++ needs.line ∷ []) bad.good later bad.rest same more.1 bad.grows (bad_ends bad.said bad.rest bad.bad) in
+    let count = length-append needs.good (needs.line ∷ []) in
+    omega (arith, most, count, bad.place)

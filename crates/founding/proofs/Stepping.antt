@@ -4,7 +4,7 @@ use Rattle.std.specs.Prelude.{IsErrAnd}
 use Rattle.std.specs.declared.result.Result.{Result}
 use Rattle.std.specs.declared.result.Result.TheVariants.{Ok, Err}
 use Rattle.founding.specs.Drafts.{Drafted}
-use Rattle.founding.specs.Indexes.{draft_of}
+use Rattle.founding.specs.DraftMaps.{draft_of}
 use Rattle.founding.specs.Steps.{Steps}
 use Rattle.founding.specs.declared.draft.Draft.{Draft}
 use Rattle.founding.specs.declared.fault.LineFault.{LineFault}

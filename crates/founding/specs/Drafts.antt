@@ -46,7 +46,7 @@ is_taken at planets = list_any (λ planet. same_coord planet.at at) planets
 abbrev pub planets_of : Player → List PlanetFields → ℕ
 planets_of player planets = count_by (λ planet. same_player planet.owner player) planets
 
--- what a new planet holds: 500 units of metal and of crystal, and no deuterium
+-- what a new planet holds: the first units of metal and of crystal, and no deuterium
 abbrev pub first_stock : Resources
 first_stock = record { metal = FIRST_UNITS * GRAINS; crystal = FIRST_UNITS * GRAINS; deuterium = 0 }
 
@@ -55,13 +55,13 @@ abbrev pub first_fields : NewPlanet → PlanetFields
 first_fields planet =
     record { at = planet.at; owner = planet.owner; temperature = planet.temperature; fields = planet.fields; stock = first_stock }
 
--- A player may be named who isn't named yet, if fewer than 10000 are.
+-- A player may be named who isn't named yet, if there is room for one more.
 pub record MayName (draft : Drafted) (player : Player) : Type 0 where
   pub unnamed : is_named player draft.players ≡ false
   pub room : length draft.players < MOST_PLAYERS
 
--- A planet may stand at a free place, if its owner is named and has fewer than 9 planets, and if fewer than 20000
--- planets stand.
+-- A planet may stand at a free place, if its owner is named and may have one more planet, and if there is room for one
+-- more.
 pub record MayStand (draft : Drafted) (planet : NewPlanet) : Type 0 where
   pub free : is_taken planet.at draft.planets ≡ false
   pub named : is_named planet.owner draft.players ≡ true

@@ -20,12 +20,13 @@ abbrev pub IsEnd : Option Drafted → List ℕ → Type 0
 IsEnd None line = ⊥
 IsEnd (Some draft) line = line ≡ codes "."
 
--- the lines end here, or the first of them adds nothing and is no end
+-- The lines end here, or the first of them is bad: it adds nothing and is no end.
 abbrev pub IsBadNext : Option Drafted → List (List ℕ) → Type 0
 IsBadNext said [] = ⊤
 IsBadNext said (line ∷ later) = (IsEnd said line → ⊥) × AddsNothing said line
 
--- Line `n`, counted from 1, is the first bad one: each line before it adds something.
+-- Line `n`, counted from 1, is the first bad one: each line before it adds something. If the lines end before a `.`, it
+-- is the one after the last.
 pub record IsBadAt (lines : List (List ℕ)) (n : ℕ) : Type 0 where
   pub good : List (List ℕ)
   pub said : Option Drafted
@@ -52,7 +53,7 @@ TakesMemory (Some draft) line = (new : Drafted) × Adds (Some draft) line new
 
 -- The lines begin a founding text, and the last one that was read adds something that takes memory; the lines `later`
 -- stand behind it.
-pub record WantsMemory (lines later : List (List ℕ)) : Type 0 where
+pub record NeedsMemory (lines later : List (List ℕ)) : Type 0 where
   pub good : List (List ℕ)
   pub said : Option Drafted
   pub line : List ℕ

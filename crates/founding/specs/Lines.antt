@@ -22,7 +22,7 @@ abbrev pub planet_words : NewPlanet → List (List ℕ)
 planet_words planet =
     codes "planet" ∷ coord_text planet.at ∷ player_text planet.owner ∷ signed_decimal planet.temperature ∷ decimal planet.fields ∷ []
 
--- the line has these words, and is no longer than a line may be
+-- the line has these words, and is no longer than a line of text may be
 pub record IsLineOf (spelled : List (List ℕ)) (line : List ℕ) : Type 0 where
   pub short : length line ≤ LONGEST_LINE
   pub spells : words line ≡ spelled

@@ -12,27 +12,27 @@ use Rattle.request_text.specs.declared.line_reader.Stop.TheVariants.{Fault as At
 use Rattle.tick_model.specs.Strict.{universe_of}
 use Rattle.tick_model.specs.declared.strict.StrictUniverse.{StrictUniverse}
 use Rattle.founding.specs.Drafts.{Drafted}
-use Rattle.founding.specs.Founding.{Founds, IsBadAt, IsBadNext, IsUnfinished, TakesMemory, WantsMemory}
+use Rattle.founding.specs.Founding.{Founds, IsBadAt, IsBadNext, IsUnfinished, TakesMemory, NeedsMemory}
 use Rattle.founding.specs.declared.fault.FoundingFault.{FoundingFault}
 use Rattle.founding.specs.declared.fault.FoundingFault.TheVariants.{Bad, ReadFault, Spent, Memory}
 
--- The text founds the universe, and the reader sees what stands behind the founding text. Or this line of it is the
--- first bad one; or what was taken of it begins a founding text; or memory ran out at a line that adds something, and
--- the reader sees what stands behind that line.
+-- The text founds the universe, and the reader sees what stands behind its `.`. Or this line of it is the first bad
+-- one; or what was taken of it begins a founding text; or memory ran out at a line that adds something, and the reader
+-- sees what stands behind that line.
 abbrev pub Reads : List ℕ → LineReader → List ℕ → Result StrictUniverse FoundingFault → Type 0
-Reads text reader left (Ok universe) = (rest : List ℕ) × Founds (lines text) (universe_of universe) (lines rest) × Sees reader left rest
-Reads text reader left (Err (Bad n)) = IsBadAt (lines text) n
-Reads text reader left (Err ReadFault) = IsUnfinished text left
-Reads text reader left (Err Spent) = IsUnfinished text left
-Reads text reader left (Err Memory) = (rest : List ℕ) × WantsMemory (lines text) (lines rest) × Sees reader left rest
+Reads text reader more (Ok universe) = (rest : List ℕ) × Founds (lines text) (universe_of universe) (lines rest) × Sees reader more rest
+Reads text reader more (Err (Bad n)) = IsBadAt (lines text) n
+Reads text reader more (Err ReadFault) = IsUnfinished text more
+Reads text reader more (Err Spent) = IsUnfinished text more
+Reads text reader more (Err Memory) = (rest : List ℕ) × NeedsMemory (lines text) (lines rest) × Sees reader more rest
 
--- Reading stops before or at the first line of a text, which has this number: the line is bad; or it was not taken
--- whole; or it adds something, and memory ran out.
+-- Reading stops at the first line of a text, which has this number. The line is bad; or it was not taken whole; or it
+-- adds something, and memory ran out.
 abbrev pub Stops : Option Drafted → ℕ → List ℕ → LineReader → List ℕ → FoundingFault → Type 0
-Stops said number text reader left (Bad n) = IsBadNext said (lines text) × (n ≡ number)
-Stops said number text reader left ReadFault = Sees reader left text × Lacks 10 (kept reader)
-Stops said number text reader left Spent = Sees reader left text × Lacks 10 (kept reader)
-Stops said number text reader left Memory = (line : List ℕ) × TakesMemory said line × Follows reader left text line
+Stops said number text reader more (Bad n) = IsBadNext said (lines text) × (n ≡ number)
+Stops said number text reader more ReadFault = Sees reader more text × Lacks 10 (kept reader)
+Stops said number text reader more Spent = Sees reader more text × Lacks 10 (kept reader)
+Stops said number text reader more Memory = (line : List ℕ) × TakesMemory said line × Follows reader more text line
 
 -- the fault of a reader that stopped
 abbrev pub fault_of : Stop → FoundingFault

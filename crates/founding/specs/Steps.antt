@@ -3,7 +3,7 @@ use Rattle.std.specs.Prelude.{◌≡◌, ℕ}
 use Rattle.std.specs.declared.result.Result.{Result}
 use Rattle.std.specs.declared.result.Result.TheVariants.{Ok, Err}
 use Rattle.founding.specs.Drafts.{Drafted}
-use Rattle.founding.specs.Indexes.{draft_of}
+use Rattle.founding.specs.DraftMaps.{draft_of}
 use Rattle.founding.specs.declared.draft.Draft.{Draft}
 use Rattle.founding.specs.declared.fault.FoundingFault.{FoundingFault}
 use Rattle.founding.specs.declared.fault.FoundingFault.TheVariants.{Bad, Memory}

@@ -3,7 +3,7 @@ ghost use Rattle.std.specs.BTreeMap.{keys, values};
 ghost use Rattle.tick_model.specs.Strict.{universe_of};
 ghost use Rattle.request_text.specs.declared.line_reader.TheConstants.{LONGEST_LINE};
 ghost use Rattle.founding.specs.Drafts.{begun, founded, planets_of, Adds, Gives, MayName, MayStand, Names};
-ghost use Rattle.founding.specs.Indexes.{draft_of, IsIndexed};
+ghost use Rattle.founding.specs.DraftMaps.{draft_of, IsSound};
 ghost use Rattle.founding.specs.Steps.{Steps};
 
 use crate::fault::LineFault;
@@ -24,8 +24,8 @@ pub const MOST_PLANETS: usize = 20000;
 /// The most planets of one player.
 pub const MOST_OWNED: u8 = 9;
 
-/// What the lines of a founding text have said so far. The players and the planets are maps, so that no list is
-/// searched. There is room for the lists of the universe too, so that founding it takes no memory.
+/// What the lines of a founding text have said so far. What a rule asks for is looked up in a map, so that no list is
+/// searched. There is room for the lists of the universe, so that founding it takes no memory.
 #[derive(Drop)]
 pub struct Draft {
     heading: Heading,
@@ -40,7 +40,7 @@ impl Draft {
     /// A draft that says no more than its heading. It takes no memory.
     pub fn new(alloc: Global, heading: Heading) -> Draft
         ensures begun { draft_of result ≡ begun heading }
-        ensures indexed { IsIndexed result }
+        ensures sound { IsSound result }
     {
         Draft {
             heading,
@@ -53,10 +53,10 @@ impl Draft {
 
     /// Adds what the line says.
     pub fn add_line(&mut self, line: &[u8]) -> Result<(), LineFault>
-        requires indexed { IsIndexed self.old }
+        requires sound { IsSound self.old }
         requires short { length line.now ≤ LONGEST_LINE }
         ensures steps { Steps (λ old new. Adds (Some old) line.now new) self.old self.new result }
-        ensures indexed { IsIndexed self.new }
+        ensures sound { IsSound self.new }
     {
         if let Some(player) = read_player(line) {
             return self.name_player(player);
@@ -69,7 +69,7 @@ impl Draft {
 
     /// The universe that the lines found. It takes no memory.
     pub fn found(self) -> StrictUniverse
-        requires { IsIndexed self }
+        requires { IsSound self }
         ensures { universe_of result ≡ founded (draft_of self) }
     {
         let Draft {
@@ -90,9 +90,9 @@ impl Draft {
 
     // Names the player.
     fn name_player(&mut self, player: Player) -> Result<(), LineFault>
-        requires { IsIndexed self.old }
+        requires { IsSound self.old }
         ensures steps { Steps (λ old new. Names old player new) self.old self.new result }
-        ensures indexed { IsIndexed self.new }
+        ensures sound { IsSound self.new }
     {
         if !self.may_name(player) {
             return Err(LineFault::Bad);
@@ -104,17 +104,17 @@ impl Draft {
 
     // Whether the player may be named.
     fn may_name(&self, player: Player) -> bool
-        requires { IsIndexed self.now }
+        requires { IsSound self.now }
         ensures { IsTrue result ↔ MayName (draft_of self.now) player }
     {
         self.players.len() < MOST_PLAYERS && !self.players.contains_key(&player)
     }
 
-    // Gives the planet to its owner.
+    // Gives the planet to its owner. The count of the owner's planets is changed last, which takes no memory.
     fn give_planet(&mut self, planet: NewPlanet) -> Result<(), LineFault>
-        requires { IsIndexed self.old }
+        requires { IsSound self.old }
         ensures steps { Steps (λ old new. Gives old planet new) self.old self.new result }
-        ensures indexed { IsIndexed self.new }
+        ensures sound { IsSound self.new }
     {
         let owned = self.owned_before(planet).ok_or(LineFault::Bad)?;
         self.planet_room.reserve(self.planets.len() + 1)?;
@@ -123,9 +123,9 @@ impl Draft {
         Ok(())
     }
 
-    // How many planets the owner of the planet has, if the planet may stand. `None` exactly if it may not.
+    // How many planets the owner of the planet has. `None` exactly if the planet may not stand.
     fn owned_before(&self, planet: NewPlanet) -> Option<u8>
-        requires { IsIndexed self.now }
+        requires { IsSound self.now }
         ensures { MatchOption result
             (MayStand (draft_of self.now) planet → ⊥)
             (λ n. MayStand (draft_of self.now) planet × (n ≡ planets_of planet.owner (draft_of self.now).planets)) }

@@ -16,7 +16,7 @@ pub enum FoundingFault {
     /// The reader has taken all the bytes that it may take.
     #[error("the input is too long")]
     Spent,
-    /// Memory ran out, at a line that adds something.
+    /// Memory ran out at a line that adds something.
     #[error("out of memory")]
     Memory,
 }
@@ -48,7 +48,7 @@ impl LineFault {
     ghost use Rattle.std.specs.Prelude.{◌≡◌};
     ghost use Rattle.founding.specs.Steps.{fault_at};
 
-    /// The same of the line of this number in a founding text.
+    /// The fault of a founding text in which the line of this number adds nothing.
     pub fn at(self, line: u64) -> FoundingFault
         ensures { result ≡ fault_at line self }
     {

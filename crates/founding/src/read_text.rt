@@ -17,8 +17,8 @@ use tick_model::StrictUniverse;
 
 /// Reads a founding text up to its `.`, and no line after it. The reader then tells the lines of the script.
 ///
-/// It fails at the first bad line, if a read fails, if the reader may take no more, and if memory runs out; the last only
-/// at a line that adds something to what the lines before it have said.
+/// It stops at the first bad line, if a read fails, and if the reader may take no more. It stops for memory only at a
+/// line that adds something to what the lines before it have said. No fault founds anything.
 pub fn read<S: Source>(
     alloc: Global,
     lines: &mut LineReader,
@@ -51,7 +51,8 @@ pub fn read<S: Source>(
     }
 }
 
-// Reads the next line, which the reader then tells. If there is none, or if it is too long, the line of this number is bad.
+// Reads the next line, which has this number. The reader then tells it. The line is bad if it is too long, or if there
+// is none.
 fn next_text<S: Source>(
     number: u64,
     lines: &mut LineReader,

@@ -5,7 +5,7 @@ use Rattle.founding.specs.Steps.{Steps}
 use Rattle.request_text.specs.LineReading.{taken, Follows, Sees}
 use Rattle.request_text.proofs.LineKnowing.{known-map, known-then}
 use Rattle.founding.specs.Drafts.{Adds}
-use Rattle.founding.specs.Indexes.{draft_of}
+use Rattle.founding.specs.DraftMaps.{draft_of}
 use Rattle.founding.specs.Reading.{Reads, Stops}
 use Rattle.founding.proofs.Hearing.{drawn-ended, drawn-line, drawn-start, drawn-stops, headless-stops, reads-fault, step-stops, Drawn}
 use Rattle.founding.specs.declared.fault.FoundingFault.TheVariants.{Bad}
@@ -51,7 +51,7 @@ lines-init g c =
     let short : length line ≤ LONGEST_LINE = subst (λ (l : List ℕ). length l ≤ LONGEST_LINE) (sym c.line.ensures) step.short in
     let says : Adds None line (draft_of c.new-draft.result) = record { value = c.in_ok-heading.heading; spelled = record { short = short; spells = spells }; makes = c.new-draft.ensures.begun } in
     record {
-      indexed = c.new-draft.ensures.indexed;
+      sound = c.new-draft.ensures.sound;
       drawn =
           known-map (left c.args.source.now) (left c.next_text.new.source) _ (λ x y. (text : List ℕ) → Sees old x text → Drawn (Some (draft_of c.new-draft.result)) 2 new y text)
           (λ x y follows text seen.
@@ -117,7 +117,7 @@ lines-preserved g c =
     let line = c.line-in-lines-2.result.now in
     let adds : Adds (Some (draft_of c.lines.draft)) line (draft_of c.add_line.new.self) = c.in_default.ensures.steps in
     record {
-      indexed = c.add_line.ensures.indexed;
+      sound = c.add_line.ensures.sound;
       drawn =
           known-then (left c.args.source.now) (left c.lines.source) (left c.next_text-in-lines.new.source) _ _ (λ x z. (text : List ℕ) → Sees start x text → Drawn (Some (draft_of c.add_line.new.self)) (c.lines.number + 1) new z text)
           (λ x y z drawn follows text seen. let d = drawn text seen in drawn-line (Some (draft_of c.lines.draft)) (draft_of c.add_line.new.self) c.lines.number old new y z text line d adds (subst (Follows new z d.rest) (sym c.line-in-lines-2.ensures) (follows d.rest d.sees)))

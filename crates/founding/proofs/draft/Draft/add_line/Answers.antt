@@ -1,6 +1,6 @@
 use Rattle.std.proofs.Common.{Some}
 use Rattle.founding.specs.Drafts.{Adds, Gives, Names}
-use Rattle.founding.specs.Indexes.{draft_of}
+use Rattle.founding.specs.DraftMaps.{draft_of}
 use Rattle.founding.proofs.Forms.{planet_adds, planet_alone, player_adds, player_alone}
 use Rattle.founding.proofs.Stepping.{steps-same}
 use Rattle.founding.proofs.draft.Draft.add_line.Goals as goal

@@ -7,8 +7,8 @@ use Rattle.std.specs.Map.{values_of}
 use Rattle.tick_model.specs.Strict.{fields_of}
 use Rattle.tick_model.specs.Universe.{PlanetFields}
 use Rattle.founding.specs.Drafts.{planet_before, put, Gives}
-use Rattle.founding.specs.Indexes.{draft_of, place_order}
-use Rattle.founding.proofs.Indexing.{named_found, planet_indexed, stranger_refused, taken_absent, taken_put}
+use Rattle.founding.specs.DraftMaps.{draft_of, place_order}
+use Rattle.founding.proofs.Finding.{named_found, planet_sound, stranger_refused, taken_absent, taken_put}
 use Rattle.founding.proofs.Mapping.{All-insert_entry}
 use Rattle.founding.proofs.Stepping.{steps-memory}
 use Rattle.founding.proofs.draft.Draft.give_planet.Goals as goal
@@ -33,8 +33,8 @@ returns-in_err-insert-2-clause-steps c =
     let found = rw c.in_ok-owned.ensures.ok_part at c.owned_before.ensures in
     absurd (stranger_refused c.args.self.now c.args.planet (sym c.in_err-insert-2.ensures.absent) found.0)
 
-pub returns-in_err-insert-2-clause-indexed : goal.returns-in_err-insert-2-clause-indexed
-returns-in_err-insert-2-clause-indexed c =
+pub returns-in_err-insert-2-clause-sound : goal.returns-in_err-insert-2-clause-sound
+returns-in_err-insert-2-clause-sound c =
     let found = rw c.in_ok-owned.ensures.ok_part at c.owned_before.ensures in
     absurd (stranger_refused c.args.self.now c.args.planet (sym c.in_err-insert-2.ensures.absent) found.0)
 
@@ -50,8 +50,8 @@ returns-clause-steps c =
     let players = c.in_ok-insert-2.ensures.keys_stay (ap is_some c.in_ok-insert-2.ensures.old ∙ named) in
     (found.0, λ i. record (draft_of old) { players = players i; planets = planets i })
 
-pub returns-clause-indexed : goal.returns-clause-indexed
-returns-clause-indexed c =
+pub returns-clause-sound : goal.returns-clause-sound
+returns-clause-sound c =
     let old = c.args.self.now in
     let new = record old { players = c.insert-2.new.self; planets = c.insert.new.self; planet_room = c.reserve.new.self } in
     let entries = old.planets.entries in
@@ -64,4 +64,4 @@ returns-clause-indexed c =
     let placed = subst (AllByRecursion (λ e. e.1.at ≡ e.0)) (sym c.in_ok-insert.ensures.entries) (All-insert_entry place_order (λ e. e.1.at ≡ e.0) c.args.planet.at c.planet.result entries here c.requires.placed absent) in
     let fields = length-map (values_of entries) fields_of in
     let count = length-values_of entries in
-    planet_indexed old new c.args.planet c.in_ok-owned.owned c.requires found.0 found.1 placed planets players c.in_ok-insert-2.ensures.updates.0 (c.in_ok-reserve.ensures.items ∙ c.requires.no_planets) (omega (arith, fields, count, c.in_ok-reserve.ensures.ok, c.len.ensures.len)) refl
+    planet_sound old new c.args.planet c.in_ok-owned.owned c.requires found.0 found.1 placed planets players c.in_ok-insert-2.ensures.updates.0 (c.in_ok-reserve.ensures.items ∙ c.requires.no_planets) (omega (arith, fields, count, c.in_ok-reserve.ensures.ok, c.len.ensures.len)) refl

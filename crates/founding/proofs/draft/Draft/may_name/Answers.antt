@@ -2,8 +2,8 @@ use Rattle.std.proofs.Common.{◌≡◌, ◌∙◌, sym, arith}
 use Rattle.std.proofs.lemmas.Bool.{not-true, not_from_false}
 use Rattle.std.proofs.lemmas.Map.Entries.{length-keys_of}
 use Rattle.founding.specs.Drafts.{is_named}
-use Rattle.founding.specs.Indexes.{draft_of}
-use Rattle.founding.proofs.Indexing.{named_found}
+use Rattle.founding.specs.DraftMaps.{draft_of}
+use Rattle.founding.proofs.Finding.{named_found}
 use Rattle.founding.proofs.draft.Draft.may_name.Goals as goal
 
 pub returns-then-len-lt-MOST_PLAYERS : goal.returns-then-len-lt-MOST_PLAYERS

@@ -5,8 +5,8 @@ use Rattle.std.proofs.lemmas.Map.Entries.{length-values_of}
 use Rattle.std.specs.Map.{values_of}
 use Rattle.tick_model.specs.Strict.{fields_of}
 use Rattle.founding.specs.Drafts.{planets_of, MayStand}
-use Rattle.founding.specs.Indexes.{draft_of}
-use Rattle.founding.proofs.Indexing.{owned_found, stranger_refused, taken_refused}
+use Rattle.founding.specs.DraftMaps.{draft_of}
+use Rattle.founding.proofs.Finding.{owned_found, stranger_refused, taken_refused}
 use Rattle.founding.proofs.draft.Draft.owned_before.Goals.{then-len-ge-MOST_PLANETS-via-then-len-ge-MOST_PLANETS, then-len-ge-MOST_PLANETS-via-else-len-ge-MOST_PLANETS+then-contains_key}
 use Rattle.founding.proofs.draft.Draft.owned_before.Goals as goal
 

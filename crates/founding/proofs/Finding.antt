@@ -20,7 +20,7 @@ use Rattle.tick_model.specs.Universe.{PlanetFields}
 use Rattle.tick_model.specs.declared.planet.Planet.{Planet}
 use Rattle.founding.specs.Drafts.{first_fields, is_named, is_taken, planet_before, planets_of, put, MayName, MayStand}
 use Rattle.founding.specs.declared.draft.TheConstants.{MOST_OWNED, MOST_PLANETS}
-use Rattle.founding.specs.Indexes.{draft_of, place_order, player_order, IsIndexed}
+use Rattle.founding.specs.DraftMaps.{draft_of, place_order, player_order, IsSound}
 use Rattle.founding.specs.declared.draft.Draft.{Draft}
 use Rattle.founding.specs.declared.new_planet.NewPlanet.{NewPlanet}
 use Rattle.founding.proofs.Mapping.{list_any-lookup, put-insert_entry}
@@ -137,13 +137,13 @@ count_next : (here : Bool) (old : Option ℕ) (n m : ℕ) → unwrap_or old 0 �
 count_next true old n m counted same = ap (λ k. k + 1) (same refl)
 count_next false old n m counted same = counted ∙ sym (add-zero m)
 
--- the draft with one more player is indexed, if the map has him with no planet
-pub player_indexed : (old new : Draft) (player : Player) → IsIndexed old → MayName (draft_of old) player → new.planets ≡ old.planets
+-- the draft with one more player is sound, if the map has him with no planet
+pub player_sound : (old new : Draft) (player : Player) → IsSound old → MayName (draft_of old) player → new.planets ≡ old.planets
     → (draft_of new).players ≡ put player_before player (draft_of old).players
     → ((q : Player) → get player_order new.players q ≡ cond (is_eq (player_order player q)) (Some 0) (get player_order old.players q))
     → new.player_room.items ≡ [] → length (draft_of old).players + 1 ≤ vec_capacity new.player_room → new.planet_room ≡ old.planet_room
-    → IsIndexed new
-player_indexed old new player before may planets players updates empty room others =
+    → IsSound new
+player_sound old new player before may planets players updates empty room others =
     let absent = named_absent player old.players.entries may.unnamed in
     let count = ap length players ∙ length-put player_before player (draft_of old).players in
     record {
@@ -162,15 +162,15 @@ player_indexed old new player before may planets players updates empty room othe
       planet_room = subst (λ m. length (map fields_of (values m)) ≤ vec_capacity new.planet_room) (sym planets) (subst (λ v. length (draft_of old).planets ≤ vec_capacity v) (sym others) before.planet_room);
     }
 
--- the draft with one more planet is indexed, if one map has the planet and the other counts it
-pub planet_indexed : (old new : Draft) (planet : NewPlanet) (n : ℕ) → IsIndexed old → MayStand (draft_of old) planet → n ≡ planets_of planet.owner (draft_of old).planets
+-- the draft with one more planet is sound, if one map has the planet and the other counts it
+pub planet_sound : (old new : Draft) (planet : NewPlanet) (n : ℕ) → IsSound old → MayStand (draft_of old) planet → n ≡ planets_of planet.owner (draft_of old).planets
     → AllByRecursion (λ e. e.1.at ≡ e.0) new.planets.entries
     → (draft_of new).planets ≡ put planet_before (first_fields planet) (draft_of old).planets
     → (draft_of new).players ≡ (draft_of old).players
     → ((q : Player) → get player_order new.players q ≡ cond (is_eq (player_order planet.owner q)) (Some (n + 1)) (get player_order old.players q))
     → new.planet_room.items ≡ [] → length (draft_of old).planets + 1 ≤ vec_capacity new.planet_room → new.player_room ≡ old.player_room
-    → IsIndexed new
-planet_indexed old new planet n before may counted placed planets players updates empty room others =
+    → IsSound new
+planet_sound old new planet n before may counted placed planets players updates empty room others =
     let count = ap length planets ∙ length-put planet_before (first_fields planet) (draft_of old).planets in
     let same_count = ap length players in
     record {
@@ -196,25 +196,25 @@ pub stranger_refused : (draft : Draft) (planet : NewPlanet) → None ≡ get pla
 stranger_refused draft planet none may = let found : true ≡ false = sym may.named ∙ named_found planet.owner draft.players.entries ∙ ap is_some (sym none) in cc
 
 -- a planet stands at no place that the map has
-pub taken_refused : (draft : Draft) (planet : NewPlanet) → IsIndexed draft → true ≡ is_some (get place_order draft.planets planet.at) → MayStand (draft_of draft) planet → ⊥
-taken_refused draft planet indexed has may = let found : true ≡ false = has ∙ sym (taken_found planet.at draft.planets.entries indexed.placed) ∙ may.free in cc
+pub taken_refused : (draft : Draft) (planet : NewPlanet) → IsSound draft → true ≡ is_some (get place_order draft.planets planet.at) → MayStand (draft_of draft) planet → ⊥
+taken_refused draft planet sound has may = let found : true ≡ false = has ∙ sym (taken_found planet.at draft.planets.entries sound.placed) ∙ may.free in cc
 
 -- how many planets the owner has, if there is room for one more
-pub owned_found : (draft : Draft) (planet : NewPlanet) (n : ℕ) (few : Bool) → few ≡ ltb n MOST_OWNED → IsIndexed draft → length (draft_of draft).planets < MOST_PLANETS → false ≡ is_some (get place_order draft.planets planet.at)
+pub owned_found : (draft : Draft) (planet : NewPlanet) (n : ℕ) (few : Bool) → few ≡ ltb n MOST_OWNED → IsSound draft → length (draft_of draft).planets < MOST_PLANETS → false ≡ is_some (get place_order draft.planets planet.at)
     → Some n ≡ get player_order draft.players planet.owner
     → MatchOption (then_some few n) (MayStand (draft_of draft) planet → ⊥) (λ m. MayStand (draft_of draft) planet × (m ≡ planets_of planet.owner (draft_of draft).planets))
-owned_found draft planet n true few indexed room absent found =
-    let counted : n ≡ planets_of planet.owner (draft_of draft).planets = ap (λ (o : Option ℕ). unwrap_or o 0) found ∙ indexed.counted planet.owner in
+owned_found draft planet n true few sound room absent found =
+    let counted : n ≡ planets_of planet.owner (draft_of draft).planets = ap (λ (o : Option ℕ). unwrap_or o 0) found ∙ sound.counted planet.owner in
     let below : n < MOST_OWNED = ltb-true n MOST_OWNED (sym few) in (
       record {
-        free = taken_found planet.at draft.planets.entries indexed.placed ∙ sym absent;
+        free = taken_found planet.at draft.planets.entries sound.placed ∙ sym absent;
         named = named_found planet.owner draft.players.entries ∙ ap is_some (sym found);
         fewer = omega (arith, counted, below);
         room = room;
       },
       counted,
     )
-owned_found draft planet n false few indexed room absent found =
-    let counted : n ≡ planets_of planet.owner (draft_of draft).planets = ap (λ (o : Option ℕ). unwrap_or o 0) found ∙ indexed.counted planet.owner in
+owned_found draft planet n false few sound room absent found =
+    let counted : n ≡ planets_of planet.owner (draft_of draft).planets = ap (λ (o : Option ℕ). unwrap_or o 0) found ∙ sound.counted planet.owner in
     let above : MOST_OWNED ≤ n = ltb-false n MOST_OWNED (sym few) in
     λ may. let below = may.fewer in omega (arith, counted, above, below)

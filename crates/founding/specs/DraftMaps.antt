@@ -1,4 +1,4 @@
--- What the draft in memory stands for.
+-- What a draft in memory stands for, and what holds of its maps.
 use Rattle.std.specs.Prelude.{◌≡◌, ◌≤◌, [], map, length, unwrap_or, vec_capacity}
 use Rattle.std.specs.declared.cmp.Ordering.{Ordering}
 use Rattle.std.specs.List.{AllByRecursion}
@@ -24,9 +24,9 @@ player_order a b = nat_cmp a.k b.k
 abbrev pub place_order : Coord → Coord → Ordering
 place_order a b = ordering_then (nat_cmp a.g b.g) (ordering_then (nat_cmp a.s b.s) (nat_cmp a.p b.p))
 
--- Each planet is kept under its own place, and for each player the count of the planets that are his, which is 0 for
--- who isn't named; and the lists of the universe have room.
-pub record IsIndexed (draft : Draft) : Type 0 where
+-- Each planet is kept under its own place. For each player the count is that of the planets which he has, so who
+-- isn't named has none. No list is longer than a universe's may be, and the lists of the universe have room for all.
+pub record IsSound (draft : Draft) : Type 0 where
   pub placed : AllByRecursion (λ entry. entry.1.at ≡ entry.0) draft.planets.entries
   pub counted : (player : Player) → unwrap_or (get player_order draft.players player) 0 ≡ planets_of player (draft_of draft).planets
   pub few_players : length (draft_of draft).players ≤ MOST_PLAYERS
