@@ -27,13 +27,13 @@ pub enum Request {
     Build(Coord, Building),
     /// `research C TECH`: the next level of a technology, at the lab of the planet at C.
     Research(Coord, Technology),
-    /// `yard C UNIT N`: N ships, satellites or defences.
+    /// `yard C UNIT COUNT`: so many ships, satellites or defences.
     Yard(Coord, Unit, Count),
-    /// `set C WORK N`: a work is to run at N tenths.
+    /// `set C WORK TENTHS`: a work is to run at so many tenths.
     Set(Coord, Work, Tenths),
-    /// `send A B MISSION P SHIPS M C D`: ships with a cargo leave A for B at a speed setting of P tenths.
+    /// `send A B MISSION SETTING SHIPS METAL CRYSTAL DEUTERIUM`: ships with a cargo leave A for B at a speed setting in tenths.
     Send(Coord, Coord, Mission, SpeedSetting, Ships, Amounts),
-    /// `join F A B P SHIPS M C D`: ships with a cargo leave A for B and arrive with the attack of group F.
+    /// `join F A B SETTING SHIPS METAL CRYSTAL DEUTERIUM`: ships with a cargo leave A for B and arrive with the attack of group F.
     Join(FleetNumber, Coord, Coord, SpeedSetting, Ships, Amounts),
     /// `recall F`: the caller's fleet F turns back.
     Recall(FleetNumber),
