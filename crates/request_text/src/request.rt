@@ -45,7 +45,7 @@ impl Request {
     ghost use Rattle.request_text.specs.Words.{form_of, request_text, request_words};
     ghost use Rattle.request_text.specs.declared.request.Request.{Request};
 
-    /// The request that a text spells. `None` exactly where it spells none.
+    /// The request that a text spells. `None` exactly if it spells none.
     ///
     /// It takes no memory, and reads each byte a bounded number of times.
     pub fn read(line: &[u8]) -> Option<Request>
@@ -57,7 +57,7 @@ impl Request {
         next_request(&mut words)
     }
 
-    /// Appends the text of the request, without a line feed. It fails only where memory runs out, and then appends nothing.
+    /// Appends the text of the request, without a line feed. It fails only if memory runs out, and then appends nothing.
     pub fn write(&self, alloc: Global, out: &mut Bytes) -> Result<(), AllocError>
         ensures ok { OnOk result (out.new ≡ out.old ++ request_text self.now) }
         ensures err { OnErr result (out.new ≡ out.old) }
@@ -113,7 +113,7 @@ impl fmt::Display for Request {
     }
 }
 
-/// Takes all words that are left as those of a request. `None` exactly where they spell none.
+/// Takes all words that are left as those of a request. `None` exactly if they spell none.
 #[tactic(auto, using(crate::proofs::Spelled::heading))]
 pub fn next_request(words: &mut Parts) -> Option<Request>
     ensures { MatchOption result
