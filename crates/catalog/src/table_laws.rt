@@ -1,4 +1,4 @@
-ghost use Rattle.std.specs.Prelude.{◌≡◌, ℕ, ◌+◌, ◌<◌, ◌≤◌, ◌⊎◌, ◌↔◌, ◌||◌, All, IfSome, IsSome, IsTrue, Some, filter, length, map, slice_get, ◌++◌};
+ghost use Rattle.std.specs.Prelude.{◌≡◌, ℕ, ◌+◌, ◌<◌, ◌≤◌, ◌⊎◌, ◌↔◌, ◌||◌, All, IfSome, IsSome, IsTrue, filter, length, map, ◌++◌};
 ghost use Rattle.std.specs.List.{range_with_len};
 ghost use Rattle.std.specs.List.Sorted.{IsStrictlyIncreasing};
 ghost use Rattle.catalog.specs.Classes.{is_building, is_ship, is_technology, is_unit, is_work};
@@ -10,7 +10,6 @@ ghost use Rattle.catalog.specs.Levels.{growth_of, level_cap_of};
 ghost use Rattle.catalog.specs.Needs.{needs_of};
 ghost use Rattle.catalog.specs.RapidFire.{rapid_of};
 ghost use Rattle.catalog.specs.Storage.{storage_limits};
-ghost use Rattle.catalog.specs.Technologies.{technology_place};
 ghost use Rattle.catalog.specs.declared.amounts.TheConstants.{CAP};
 ghost use Rattle.catalog.specs.declared.classes.TheConstants.{BUILDINGS, TECHNOLOGIES, UNIT_KINDS, WORKS};
 ghost use Rattle.catalog.specs.declared.kind.Kind.{Kind};
@@ -19,8 +18,7 @@ ghost use Rattle.catalog.specs.declared.kind.TheConstants.{KINDS};
 ghost use Rattle.catalog.specs.declared.ships.TheConstants.{SHIPS};
 
 /// The kinds are listed by number: 11 buildings from 1 on, 14 technologies from 21 on, 14 ships from 41 on and 8
-/// defences from 61 on. Each class is listed in the same order, and the place of a technology in its list is that of its
-/// level among levels. It does nothing: the laws are its contract.
+/// defences from 61 on. Each class is listed in the same order. It does nothing: the laws are its contract.
 pub fn kinds_are_listed()
     ensures numbers { map kind_number KINDS
         ≡ range_with_len 1 11 ++ range_with_len 21 14 ++ range_with_len 41 14 ++ range_with_len 61 8 }
@@ -29,7 +27,6 @@ pub fn kinds_are_listed()
     ensures ships { SHIPS ≡ filter is_ship KINDS }
     ensures units { UNIT_KINDS ≡ filter is_unit KINDS }
     ensures works { WORKS ≡ filter is_work KINDS }
-    ensures levels { (kind : Kind) → IsTrue (is_technology kind) → slice_get TECHNOLOGIES (technology_place kind) ≡ Some kind }
 {}
 
 /// No first cost is above the cap. It does nothing: the laws are its contract.

@@ -20,7 +20,7 @@ use Rattle.reply_text.specs.declared.reply.Reply.{Reply}
 use Rattle.command.specs.declared.answering.Answer.{Answer}
 use Rattle.command.specs.declared.answering.Answer.TheVariants as A
 
--- the bytes of an answer, where the reply has this text
+-- the bytes of an answer, if the reply has this text
 abbrev pub answer_text : Answer → List ℕ → List ℕ
 answer_text A.Bad reply = bad_line
 answer_text A.Long reply = long_line

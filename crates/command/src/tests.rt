@@ -1,7 +1,8 @@
-use crate::{DONE, NOT_A_COMMAND, NOT_FOUNDED, SINK_FAULT, SOURCE_FAULT, ask, run};
+use crate::{DONE, NOT_A_COMMAND, NOT_FOUNDED, SINK_FAULT, SOURCE_FAULT, answer, run};
 use base_ids::{Coord, Player};
-use founding::Founding;
+use base_text::Bytes;
 use ports::{MemoryClock, MemorySink, MemorySource};
+use reply_text::write_reply;
 use request_text::{LineReader, Request};
 use std::alloc::{AllocError, Global};
 use std::test::Fail;
@@ -360,10 +361,7 @@ fn bytes_come_and_go_in_pieces_of_any_size(rt: HostRuntime) -> Result<(), Fail> 
 fn fresh(alloc: Global) -> Result<StrictUniverse, Fail> {
     let mut lines = LineReader::new(alloc)?;
     let mut source = MemorySource::new(FOUNDING, &[]);
-    match founding::read(alloc, &mut lines, &mut source) {
-        Founding::Founded(universe) => Ok(universe),
-        _ => Err(Fail::from("not founded")),
-    }
+    Ok(founding::read(alloc, &mut lines, &mut source)?)
 }
 
 #[test]
@@ -371,6 +369,7 @@ fn the_closed_form_answers_as_the_universe_that_ticks(rt: HostRuntime) -> Result
     let alloc = rt.alloc();
     let mut fast = fresh(alloc)?;
     let mut ticking = fresh(alloc)?;
+    let mut quick = Bytes::new(alloc);
     let here = Coord { g: 1, s: 1, p: 1 };
     let there = Coord { g: 1, s: 1, p: 2 };
     let calls = [
@@ -387,13 +386,29 @@ fn the_closed_form_answers_as_the_universe_that_ticks(rt: HostRuntime) -> Result
         assert!(rt; fast.number < 1000 && ticking.number < 1000);
         let player = Player { k };
         let req = Request::Planet(at);
-        let quick = ask(alloc, &mut fast, player, &req, reading)?;
-        let slow = tick_model::ask(alloc, &mut ticking, player, &req, reading)?;
-        assert_eq!(rt; quick.number, slow.number);
-        assert_eq!(rt; quick.moment, slow.moment);
-        assert_eq!(rt; quick.code, slow.code);
-        assert!(rt; quick.body == slow.body);
-        assert_eq!(rt; fast.moment, ticking.moment);
+        answer(alloc, &mut fast, player, &req, reading, &mut quick)?;
+        let reply = tick_model::ask(alloc, &mut ticking, player, &req, reading)?;
+        let mut slow = Bytes::new(alloc);
+        write_reply(&mut slow, &reply)?;
+        assert!(rt; quick == slow);
+        assert_eq!(rt; (fast.number, fast.moment), (reply.number, reply.moment));
     }
+    Ok(())
+}
+
+#[test]
+fn two_hundred_thousand_requests_are_answered(rt: HostRuntime) -> Result<(), Fail> {
+    let alloc = rt.alloc();
+    let mut script = Vec::new(alloc);
+    for second in 1..200_001u32 {
+        let line = format!(in alloc; "@{second} 2 planet 1:1:1\n")?;
+        script.extend_from_slice(line.as_bytes())?;
+    }
+    let (status, sink) = answers_to(alloc, &script)?;
+    assert_eq!(rt; status, DONE);
+    assert!(rt;
+        sink.written()
+            .ends_with(b"no 199999 199999 1\nno 200000 200000 1\n")
+    );
     Ok(())
 }

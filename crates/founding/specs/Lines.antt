@@ -17,7 +17,7 @@ heading_words heading =
 abbrev pub player_words : Player → List (List ℕ)
 player_words player = codes "player" ∷ player_text player ∷ []
 
--- `planet C K T FIELDS`
+-- `planet C K TEMPERATURE FIELDS`
 abbrev pub planet_words : NewPlanet → List (List ℕ)
 planet_words planet =
     codes "planet" ∷ coord_text planet.at ∷ player_text planet.owner ∷ signed_decimal planet.temperature ∷ decimal planet.fields ∷ []

@@ -17,7 +17,7 @@ pub const MOST_FIELDS: u16 = 400;
 /// The units of metal and of crystal that a new planet holds.
 pub const FIRST_UNITS: u64 = 500;
 
-/// What the line `planet C K T FIELDS` says: a place, its owner, its maximum temperature in degrees, and its fields.
+/// What the line `planet C K TEMPERATURE FIELDS` says: a place, its owner, its maximum temperature in degrees, and its fields.
 #[derive(Clone, Copy, Debug)]
 pub struct NewPlanet {
     pub at: Coord,

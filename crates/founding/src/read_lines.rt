@@ -66,7 +66,7 @@ pub fn read_player(line: &[u8]) -> Option<Player>
     player(number)
 }
 
-/// What a line `planet C K T FIELDS` says. `None` exactly if the line is no such line.
+/// What a line `planet C K TEMPERATURE FIELDS` says. `None` exactly if the line is no such line.
 pub fn read_planet(line: &[u8]) -> Option<NewPlanet>
     ensures { MatchOption result
         ((p : NewPlanet) → words line.now ≡ planet_words p → ⊥)

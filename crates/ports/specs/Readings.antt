@@ -24,6 +24,6 @@ unfoldable pub first_readings : List ℕ → ℕ → List ℕ
 first_readings readings zero = []
 first_readings readings (suc n) = first_readings readings n ++ reading_at readings n ∷ []
 
--- the readings told so far, where their count has not come to its last value
+-- the readings told so far, if their count has not come to its last value
 unfoldable pub readings_told : List ℕ → ℕ → Option (List ℕ)
 readings_told readings count = (if nat_eq count (2 ^ 64 - 1) then None else Some (first_readings readings count))

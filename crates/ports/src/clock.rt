@@ -13,7 +13,7 @@ pub trait Clock: Sized {
     // the last reading told, and 0 before the first
     ghost last: { Self → ℕ };
 
-    // all readings told, oldest first, where the object tells
+    // all readings told, oldest first, if the object tells
     ghost told: { Self → Option (List ℕ) };
 
     /// Tells a reading.

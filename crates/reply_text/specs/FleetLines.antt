@@ -26,10 +26,10 @@ course_words fleet =
 abbrev pub state_words : FleetLine → List (List ℕ)
 state_words fleet = stage_word fleet.stage ∷ decimal fleet.second ∷ units_text fleet.cargo ∷ ships_text fleet.ships ∷ []
 
--- `fleet N GROUP MISSION FROM TO STAGE SECOND M C D SHIPS`
+-- `fleet F GROUP MISSION A B STAGE SECOND METAL CRYSTAL DEUTERIUM SHIPS`
 abbrev pub fleet_line : FleetLine → List ℕ
 fleet_line fleet = line (codes "fleet" ∷ course_words fleet ++ state_words fleet)
 
--- `at C OWNER M C`: a planet of a system, with the metal and crystal of its debris
+-- `at C K METAL CRYSTAL`: a planet of a system, with the metal and crystal of its debris
 abbrev pub at_line : Coord → Player → ℕ → ℕ → List ℕ
 at_line at owner metal crystal = line (codes "at" ∷ coord_text at ∷ player_text owner ∷ decimal metal ∷ decimal crystal ∷ [])

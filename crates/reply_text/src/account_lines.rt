@@ -39,7 +39,7 @@ pub fn push_account(alloc: Global, body: &mut Bytes, account: AccountHead) -> Re
     )
 }
 
-/// Appends `tech NAME L` for each technology whose level is above 0. The levels stand by the numbers of the kinds, from
+/// Appends `tech TECH LEVEL` for each technology whose level is above 0. The levels stand by the numbers of the kinds, from
 /// energy to graviton.
 ///
 /// It fails only if memory runs out, and then appends nothing.

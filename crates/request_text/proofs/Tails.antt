@@ -9,7 +9,7 @@ tail_same old x y xs ys a b = let both : x ∷ xs ≡ y ∷ ys = sym a ∙ b in 
 pub tail_same_two : {A : Type 0} (old : List A) (v w x y : A) (xs ys : List A) → old ≡ v ∷ w ∷ xs → old ≡ x ∷ y ∷ ys → xs ≡ ys
 tail_same_two old v w x y xs ys a b = let both : v ∷ w ∷ xs ≡ x ∷ y ∷ ys = sym a ∙ b in cc
 
--- no answer, where there is none to give
+-- no answer, if there is none to give
 pub if_none : {A : Type 0} (result : Option A) (N : Type 0) (S : A → Type 0) → result ≡ None → N → MatchOption result N S
 if_none None N S is holds = holds
 if_none (Some x) N S is holds = absurd (cc is)

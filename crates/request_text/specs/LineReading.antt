@@ -41,7 +41,7 @@ IsFront true front = (401 < length front) × Lacks 10 front
 
 -- What the reader still has to tell, together with what the source has left, is this text. While a long line is
 -- passed over, its front is known no more: any front of more than 401 bytes without a line feed will do. (A line
--- of 400 bytes takes 401 before its line feed where it has a carriage return there.)
+-- of 400 bytes takes 401 before its line feed if it has a carriage return there.)
 pub record Sees (reader : LineReader) (left text : List ℕ) : Type 0 where
   pub front : List ℕ
   pub passed : IsFront reader.long front
@@ -91,7 +91,7 @@ Leaves new End = IsOver new × (answered_line new ≡ []) × (taken new < MOST_T
 Leaves new Fault = (answered_line new ≡ []) × (taken new < MOST_TAKEN) × Lacks 10 (kept new)
 Leaves new Spent = IsSpent new × (answered_line new ≡ []) × (taken new ≡ MOST_TAKEN) × Lacks 10 (kept new)
 
--- a fact of what a source had left and what it has left now, where the source tells
+-- a fact of what a source had left and what it has left now, if the source tells
 abbrev pub Known : Option (List ℕ) → Option (List ℕ) → (List ℕ → List ℕ → Type 0) → Type 0
 Known None after P = ⊤
 Known (Some left) None P = ⊥

@@ -14,8 +14,8 @@ use crate::ship_counts::ships;
 use base_ids::{Coord, FleetNumber, LAST_NUMBER, System};
 use base_text::{Parts, number, positive_number};
 use catalog::{
-    Amounts, Building, CAP, Class, Count, Mission, Ships, SpeedSetting, Technology, Tenths, UNITS, Unit,
-    Work,
+    Amounts, Building, CAP, Class, Count, Mission, Ships, SpeedSetting, Technology, Tenths, UNITS,
+    Unit, Work,
 };
 
 /// What one word spells.

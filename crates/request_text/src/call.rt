@@ -27,7 +27,7 @@ pub struct Call {
 impl Call {
     ghost use Rattle.request_text.specs.Grammar.{IsOutside, Spells};
 
-    /// The call that a line spells: `K REQUEST`, or in a script also `@R K REQUEST`. `None` exactly where it spells none.
+    /// The call that a line spells: `K REQUEST`, or in a script also `@R K REQUEST`. `None` exactly if it spells none.
     ///
     /// It takes no memory, and reads each byte a bounded number of times.
     pub fn read(line: &[u8], script: bool) -> Option<Call>
@@ -52,7 +52,7 @@ fn names_reading(words: &Parts) -> bool
     }
 }
 
-/// Takes all words as those of a call that names no reading. `None` exactly where they spell none.
+/// Takes all words as those of a call that names no reading. `None` exactly if they spell none.
 #[tactic(auto, using(crate::proofs::Calls::untimed))]
 fn next_untimed(words: &mut Parts) -> Option<Call>
     ensures { MatchOption result
@@ -69,7 +69,7 @@ fn next_untimed(words: &mut Parts) -> Option<Call>
     })
 }
 
-/// Takes all words as those of a call that names a reading. `None` exactly where they spell none.
+/// Takes all words as those of a call that names a reading. `None` exactly if they spell none.
 #[tactic(auto, using(crate::proofs::Calls::timed))]
 fn next_timed(words: &mut Parts) -> Option<Call>
     ensures { MatchOption result

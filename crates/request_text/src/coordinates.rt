@@ -7,7 +7,7 @@ ghost use Rattle.base_ids.specs.declared.system.System.{System};
 use base_ids::{Coord, Player, System};
 use base_text::{cut, positive_number};
 
-/// The coordinate that a word spells, as `1:499:15`. `None` exactly where it spells none.
+/// The coordinate that a word spells, as `1:499:15`. `None` exactly if it spells none.
 #[tactic(auto, using(base_text::proofs::Joining::colon_numbers))]
 pub fn coord(word: &[u8]) -> Option<Coord>
     ensures { MatchOption result
@@ -26,7 +26,7 @@ pub fn coord(word: &[u8]) -> Option<Coord>
     })
 }
 
-/// The player whose number a word spells. `None` exactly where it spells none from 1 to 65535.
+/// The player whose number a word spells. `None` exactly if it spells none from 1 to 65535.
 pub fn player(word: &[u8]) -> Option<Player>
     ensures { MatchOption result
         ((found : Player) → word.now ≡ player_text found → ⊥)
@@ -36,7 +36,7 @@ pub fn player(word: &[u8]) -> Option<Player>
     Some(Player { k: k as u32 })
 }
 
-/// The system that a word spells, as `1:499`. `None` exactly where it spells none.
+/// The system that a word spells, as `1:499`. `None` exactly if it spells none.
 #[tactic(auto, using(crate::proofs::Colons::systems))]
 pub fn system(word: &[u8]) -> Option<System>
     ensures { MatchOption result

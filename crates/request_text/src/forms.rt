@@ -103,7 +103,7 @@ pub fn research(words: &mut Parts) -> Option<Request>
     Some(Request::Research(at, technology))
 }
 
-/// Reads the words `C UNIT N` of `yard`. `None` exactly if they are not such words.
+/// Reads the words `C UNIT COUNT` of `yard`. `None` exactly if they are not such words.
 pub fn yard(words: &mut Parts) -> Option<Request>
     ensures { MatchOption result
         ((at : Coord) (unit : Unit) (count : Count)
@@ -119,7 +119,7 @@ pub fn yard(words: &mut Parts) -> Option<Request>
     Some(Request::Yard(at, unit, count))
 }
 
-/// Reads the words `C WORK N` of `set`. `None` exactly if they are not such words.
+/// Reads the words `C WORK TENTHS` of `set`. `None` exactly if they are not such words.
 pub fn set(words: &mut Parts) -> Option<Request>
     ensures { MatchOption result
         ((at : Coord) (work : Work) (tenths : Tenths)
@@ -135,7 +135,7 @@ pub fn set(words: &mut Parts) -> Option<Request>
     Some(Request::Set(at, work, tenths))
 }
 
-/// Reads the words `A B MISSION P SHIPS M C D` of `send`. `None` exactly if they are not such words.
+/// Reads the words `A B MISSION SETTING SHIPS METAL CRYSTAL DEUTERIUM` of `send`. `None` exactly if they are not such words.
 pub fn send(words: &mut Parts) -> Option<Request>
     ensures { MatchOption result
         ((from : Coord) (to : Coord) (mission : Mission) (setting : SpeedSetting) (ships : Ships) (cargo : Amounts)
@@ -151,7 +151,7 @@ pub fn send(words: &mut Parts) -> Option<Request>
     Some(Request::Send(from, to, mission, setting, ships, cargo))
 }
 
-/// Reads the words `F A B P SHIPS M C D` of `join`. `None` exactly if they are not such words.
+/// Reads the words `F A B SETTING SHIPS METAL CRYSTAL DEUTERIUM` of `join`. `None` exactly if they are not such words.
 pub fn join(words: &mut Parts) -> Option<Request>
     ensures { MatchOption result
         ((fleet : FleetNumber) (from : Coord) (to : Coord) (setting : SpeedSetting) (ships : Ships) (cargo : Amounts)

@@ -94,7 +94,7 @@ enum Refilled {
 }
 
 /// Reads the lines of a source, one a call, in memory that does not grow. A line ends at a line feed, and one
-/// carriage return just before that is no part of the line. A last line without a line feed counts where it is
+/// carriage return just before that is no part of the line. A last line without a line feed counts if it is
 /// not empty, and keeps all its bytes.
 #[derive(Drop)]
 pub struct LineReader {
@@ -137,7 +137,7 @@ impl LineReader {
         })
     }
 
-    /// The line that was answered last, where the last answer was a text. Else no bytes.
+    /// The line that was answered last, if the last answer was a text. Else no bytes.
     pub fn line(&self) -> &[u8]
         ensures { result.now ≡ answered_line self.now }
     {
@@ -182,7 +182,7 @@ impl LineReader {
         Line::End
     }
 
-    // Answers the next line, where the reader may read on.
+    // Answers the next line, if the reader may read on.
     fn read_line<S: Source>(&mut self, src: &mut S) -> Line
         requires { self.old.stage ≡ Stage.Open }
         ensures tells { Known (S.left src.old) (S.left src.new) (λ left more. Tells self.old left self.new more result) }
@@ -247,7 +247,7 @@ impl LineReader {
         self.answer(count, place + 1)
     }
 
-    // Answers the last line, or the end where there is none.
+    // Answers the last line, or the end if there is none.
     fn last_line(&mut self) -> Line
         requires reads { IsReading self.old }
         requires unbroken { Lacks 10 (kept self.old) }
@@ -310,7 +310,7 @@ impl LineReader {
         }
     }
 
-    // Reads behind the bytes that are kept, and marks where no more may be taken.
+    // Reads behind the bytes that are kept, and notes if no more may be taken.
     fn refill<S: Source>(&mut self, src: &mut S) -> Refilled
         requires reads { IsReading self.old }
         requires short { length (kept self.old) ≤ 401 }

@@ -10,7 +10,7 @@ use ports::{MemorySource, Source};
 use std::process::Abort;
 use std::test::Fail;
 
-// How many lines a reader answers: all that it sees, or those that are whole where a read fails or the reader may
+// How many lines a reader answers: all that it sees, or those that are whole if a read fails or the reader may
 // take no more.
 fn count_lines<S: Source>(reader: &mut LineReader, src: &mut S) -> Result<u64, u64>
     requires { ahead reader.old ≤ MOST_TAKEN }

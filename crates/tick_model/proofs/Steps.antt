@@ -62,7 +62,7 @@ there_if_there of_nothing same other is = refl
 there_if_there of_account same other is = rw is refl
 there_if_there (of_planet planet) same other is = rw is refl
 
--- what comes of a request that is shown less of a planet, where the caller is no player
+-- what comes of a request that is shown less of a planet, if the caller is no player
 outcome_shown : (rules : Rules) (seen : CellId → View) (player : Player) (account planet : Own) (same : Bool) → same ≡ true
     → planet_outcome rules seen player account (cond (is_there account && is_there planet && same) planet of_nothing) ≡ planet_outcome rules seen player account planet
 outcome_shown rules seen player of_nothing planet same is = refl

@@ -62,7 +62,7 @@ write cells change universe =
       fleets = filter_map change.fleet universe.fleets ++ change.sent;
     }
 
--- what comes of a request: its code, which is 0 where it is granted, the lines of its reply, and its change
+-- what comes of a request: its code, which is 0 if it is granted, the lines of its reply, and its change
 pub record Outcome : Type 0 where
   pub code : ℕ
   pub body : List ℕ
@@ -74,8 +74,8 @@ refused code seen = record { code = code; body = []; change = no_change seen }
 abbrev pub granted : List ℕ → (CellId → View) → Outcome
 granted body seen = record { code = 0; body = body; change = no_change seen }
 
--- `planet C` by what is there of the caller's account and at C. It is refused with 1 where the caller is no
--- player, 2 where no planet stands at C, and 3 where that planet is somebody else's.
+-- `planet C` by what is there of the caller's account and at C. It is refused with 1 if the caller is no
+-- player, 2 if no planet stands at C, and 3 if that planet is somebody else's.
 abbrev pub planet_outcome : Rules → (CellId → View) → Player → Own → Own → Outcome
 planet_outcome rules seen player of_account (of_planet planet) =
     if same_player planet.owner player then granted (planet_text rules planet) seen else refused NOT_YOURS seen

@@ -47,7 +47,7 @@ fn tick_to(universe: &mut StrictUniverse, moment: u64)
 /// Asks the universe, which ticks second by second to the moment of the request. The reading is at most 2^40 − 1.
 ///
 /// It is the plain form of asking: it takes a step for every second and every planet, and a copy of the
-/// universe. Where memory runs out the universe stays as it was.
+/// universe. If memory runs out the universe stays as it was.
 pub fn ask(
     alloc: Global,
     universe: &mut StrictUniverse,

@@ -8,7 +8,7 @@ use crate::clock::{Clock, LATEST};
 use std::time::Duration;
 use std::{io, rt};
 
-/// A clock over the system's. Where the system gives no time it repeats its last reading, and it
+/// A clock over the system's. If the system gives no time it repeats its last reading, and it
 /// tells a time after `LATEST` as `LATEST`. It keeps no list of its readings.
 #[derive(Drop)]
 pub struct SystemClock<'a, R> {
@@ -41,7 +41,7 @@ impl<R: rt::Clock> Clock for SystemClock<'_, R> {
     }
 }
 
-// The whole seconds of a time that the system gave, or the last reading where it gave none.
+// The whole seconds of a time that the system gave, or the last reading if it gave none.
 fn seconds_of(time: io::Result<Duration>, latest: u64) -> u64
     ensures { MatchResult time (λ since. result ≡ min (as_nanos since / 1_000_000_000) LATEST) (λ _. result ≡ latest) }
 {

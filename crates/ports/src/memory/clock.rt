@@ -7,7 +7,7 @@ ghost use Rattle.ports.specs.declared.clock.TheConstants.{LATEST};
 use crate::clock::{Clock, LATEST};
 
 /// A clock that tells readings in memory, in order, for tests. It repeats the last one, tells 0
-/// where there is none, and tells one above `LATEST` as `LATEST`.
+/// if there is none, and tells one above `LATEST` as `LATEST`.
 #[derive(Clone, Copy)]
 pub struct MemoryClock<'a> {
     /// The readings to tell, from the first.
@@ -65,7 +65,7 @@ impl Clock for MemoryClock<'_> {
     }
 }
 
-// The reading at a place of the list, the last one past its end, and 0 where it is empty.
+// The reading at a place of the list, the last one past its end, and 0 if it is empty.
 #[tactic(auto, unfolding(crate::specs::Readings::reading_at))]
 fn take_reading(readings: &[u64], place: u64) -> u64
     ensures value { result ≡ reading_at readings.now place }
