@@ -27,7 +27,7 @@ pub use kind::{KINDS, Kind};
 pub use mission::Mission;
 pub use need::{GRAVITON_ENERGY, Need};
 pub use rapid_fire::rapid;
-pub use settings::{Count, SpeedSetting, Tenths};
+pub use settings::{Count, SpeedSetting, TOP_SPEED, Tenths};
 pub use ships::{SHIPS, Ships, UNITS};
 pub use storage::storage_limit;
 pub use table_laws::{

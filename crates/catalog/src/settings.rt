@@ -3,6 +3,9 @@ ghost use Rattle.catalog.specs.declared.ships.TheConstants.{UNITS};
 
 use std::fmt;
 
+/// The highest speed of a universe. The lowest is 1.
+pub const TOP_SPEED: u32 = 100;
+
 /// The speed setting of a fleet, 1 to 10: tenths of the full speed. Its text is the number.
 #[derive(Clone, Copy, Debug, PartialEq, Eq)]
 pub struct SpeedSetting {

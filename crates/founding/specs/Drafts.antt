@@ -33,12 +33,15 @@ abbrev pub put : {A : Type 0} → (A → A → Bool) → A → List A → List A
 put before new [] = new ∷ []
 put before new (first ∷ later) = if before new first then new ∷ first ∷ later else first ∷ put before new later
 
+-- by coordinates
 abbrev pub planet_before : PlanetFields → PlanetFields → Bool
 planet_before a b = coord_before a.at b.at
 
+-- the player is one of these
 abbrev pub is_named : Player → List Player → Bool
 is_named player players = list_any (λ other. same_player other player) players
 
+-- one of the planets stands there
 abbrev pub is_taken : Coord → List PlanetFields → Bool
 is_taken at planets = list_any (λ planet. same_coord planet.at at) planets
 

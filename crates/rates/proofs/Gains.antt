@@ -7,7 +7,7 @@ use Rattle.rates.specs.declared.stock.TheConstants.{GRAINS}
 use Rattle.rates.specs.declared.resources.Resources.{Resources}
 use Rattle.rates.specs.Times.{times}
 
--- one second more, where a stock is cut at its limit
+-- one second more, with the stock cut at its limit
 one_more : (limit hourly now next : ℕ) → next ≡ now + hourly → gain_once limit hourly (min now limit) ≡ min next limit
 one_more limit hourly now next more = grind (arith, nat_tests)
 

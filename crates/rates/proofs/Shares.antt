@@ -4,9 +4,9 @@ use Rattle.std.specs.Prelude.{ℤ}
 use Rattle.std.proofs.lemmas.Nat.{mul-le}
 use Rattle.std.proofs.Math.Nat.{zero-div}
 use Rattle.std.proofs.lemmas.Bool.Decides.{nat_tests}
-use Rattle.base_num.proofs.Quotients.{floor_bounds, ceiling_bounds, is_ceiling}
+use Rattle.base_num.proofs.Quotients.{floor_bounds, ceiling_bounds, is_ceiling, quotient_below}
+use Rattle.catalog.specs.declared.settings.TheConstants.{TOP_SPEED}
 use Rattle.rates.proofs.Powers.{ten_some}
-use Rattle.rates.proofs.Sizes.{quotient_below}
 use Rattle.catalog.specs.declared.kind.Kind.TheVariants.{MetalMine, CrystalMine, DeuteriumSynth, SolarPlant, Satellite}
 use Rattle.rates.specs.Energy.{setting, given_of, need_of, IsGiven, IsNeeded}
 use Rattle.rates.specs.Formulas.{output, intake, synthesized, collected, warmth}
@@ -18,13 +18,13 @@ tenfold_some : (level : ℕ) → 1 ≤ 10 ^ level * 10
 tenfold_some level = let some = ten_some level in omega (arith, some)
 
 -- a product of a mine's yield at a speed with the energy that it has
-pub speed_fits : (mine speed : ℕ) → mine ≤ 16200 → speed ≤ 100 → mine * speed ≤ 1620000
-speed_fits mine speed low fast = mul-le mine speed 16200 100 low fast
+pub speed_fits : (mine speed : ℕ) → mine ≤ 16200 → speed ≤ TOP_SPEED → mine * speed ≤ 1620000
+speed_fits mine speed low fast = mul-le mine speed 16200 TOP_SPEED low fast
 
 pub energy_fits : (a b : ℕ) → a ≤ 1620000 → b ≤ 21600 → a * b ≤ 34992000000
 energy_fits a b low few = mul-le a b 1620000 21600 low few
 
--- where energy is needed
+-- if energy is needed
 pub scaled_is : (mine speed given need : ℕ) → 1 ≤ need → scaled mine speed given need ≡ mine * speed * min given need / need
 unfolding scaled
 scaled_is mine speed given need some = grind (arith, nat_tests)

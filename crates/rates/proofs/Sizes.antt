@@ -3,9 +3,8 @@ use Rattle.std.proofs.Common.{◌≡◌, ℕ, ◌+◌, ◌-◌, ◌*◌, ◌/◌
 use Rattle.std.specs.Prelude.{ℤ, ◌≤ℤ◌}
 use Rattle.std.proofs.lemmas.Int.{ints}
 use Rattle.std.proofs.lemmas.Nat.{pow-add, mul-le}
-use Rattle.std.proofs.Math.Nat.{pow-le-pow_left, le_of_mul-le-mul_right, div-le_of_le-mul, div-mul-le_self, lt_of_mul-lt-mul_right, mul_comm}
-use Rattle.base_num.proofs.Quotients.{floor_bounds}
-use Rattle.base_num.specs.Division.{ceiling}
+use Rattle.std.proofs.Math.Nat.{pow-le-pow_left, le_of_mul-le-mul_right}
+use Rattle.base_num.proofs.Quotients.{floor_bounds, ceiling_below, quotient_below}
 use Rattle.catalog.specs.declared.ships.TheConstants.{UNITS}
 use Rattle.rates.specs.declared.works.TheConstants.{COLDEST, HOTTEST}
 use Rattle.rates.proofs.Powers.{ten_some}
@@ -23,10 +22,6 @@ eleven_tens level low =
     let most : 11 ^ 30 ≤ 18 * 10 ^ 30 = lit≤ tt in
     le_of_mul-le-mul_right {k = 10 ^ rest} (omega arith) (ten_some rest)
 
--- a quotient is at most k where k divisors reach the number
-pub quotient_below : (number divisor k : ℕ) → number ≤ k * divisor → number / divisor ≤ k
-quotient_below number divisor k below = div-le_of_le-mul divisor (rw (mul_comm divisor k) below)
-
 product_below : (rate level tenths : ℕ) → level ≤ 30 → tenths ≤ 10 → rate * level * 11 ^ level * tenths ≤ 540 * rate * (10 ^ level * 10)
 product_below rate level tenths low few =
     let levels : rate * level ≤ rate * 30 = mul-le _ _ _ _ (le_refl _) low in
@@ -38,15 +33,6 @@ product_below rate level tenths low few =
 pub output_below : (rate level tenths : ℕ) → level ≤ 30 → tenths ≤ 10 → output rate level tenths ≤ 540 * rate
 unfolding output
 output_below rate level tenths low few = quotient_below _ _ (540 * rate) (product_below rate level tenths low few)
-
--- a quotient rounded up is at most k where k divisors reach the number
-ceiling_below : (number divisor k : ℕ) → 1 ≤ divisor → number ≤ k * divisor → ceiling number divisor ≤ k
-ceiling_below number divisor k some below =
-    let quotient : ℕ = (number + (divisor - 1)) / divisor in
-    let fits : quotient * divisor ≤ number + (divisor - 1) = div-mul-le_self (number + (divisor - 1)) divisor in
-    let less : quotient * divisor < (k + 1) * divisor = omega (arith, fits, below) in
-    let bound : quotient < k + 1 = lt_of_mul-lt-mul_right divisor less in
-    omega (arith, bound)
 
 pub intake_below : (rate level tenths : ℕ) → level ≤ 30 → tenths ≤ 10 → intake rate level tenths ≤ 540 * rate
 unfolding intake

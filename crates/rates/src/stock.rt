@@ -3,7 +3,7 @@ ghost use Rattle.rates.specs.Stock.{IsWithinCap, gain_once, hourly_yield, stocks
 ghost use Rattle.rates.specs.Times.{times};
 
 use crate::resources::Resources;
-use catalog::{CAP, storage_limit};
+use catalog::{CAP, TOP_SPEED, storage_limit};
 
 /// The grains in one unit of a resource: stocks are counted in grains.
 pub const GRAINS: u64 = 3600;
@@ -27,9 +27,9 @@ pub fn gain(grains: u64, limit: u64, hourly: u64, seconds: u64) -> u64
     grains.saturating_add(gained).min(limit)
 }
 
-/// What each planet yields an hour, in units, at a speed of 1 to 100.
+/// What each planet yields an hour, in units, at a speed of 1 to `TOP_SPEED`.
 pub fn basic_income(speed: u32) -> Resources
-    requires { speed ≤ 100 }
+    requires { speed ≤ TOP_SPEED }
     ensures { result ≡ hourly_yield speed }
 {
     let speed = u64::from(speed);
@@ -63,10 +63,10 @@ pub fn whole_units(stock: Resources) -> Resources
     }
 }
 
-/// The stocks of a planet, in grains, after `seconds` seconds at a speed of 1 to 100.
+/// The stocks of a planet, in grains, after `seconds` seconds at a speed of 1 to `TOP_SPEED`.
 #[tactic(auto, using(crate::proofs::Gains::all_gains))]
 pub fn stocks_after(stock: Resources, speed: u32, seconds: u64) -> Resources
-    requires speed { speed ≤ 100 }
+    requires speed { speed ≤ TOP_SPEED }
     requires stock { IsWithinCap stock }
     ensures value { result ≡ times seconds (stocks_second speed) stock }
     ensures within { IsWithinCap result }

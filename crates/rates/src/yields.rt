@@ -1,4 +1,5 @@
 ghost use Rattle.std.specs.Prelude.{◌≡◌, ◌≤◌};
+ghost use Rattle.catalog.specs.declared.settings.TheConstants.{TOP_SPEED};
 ghost use Rattle.rates.specs.Energy.{IsGiven, IsInRange, IsNeeded, given_of, need_of};
 ghost use Rattle.rates.specs.Yields.{AreMines, AreSmall, AreYields, IsScaled, hourly_of, mines_of, scaled};
 
@@ -8,14 +9,14 @@ use crate::stock::basic_income;
 use crate::temperature::{collected, synthesized};
 use crate::works::{Hourly, Works};
 
-/// What a planet with these works yields an hour, in units, at a speed of 1 to 100, and the energy that its works give
+/// What a planet with these works yields an hour, in units, at a speed of 1 to `TOP_SPEED`, and the energy that its works give
 /// and need.
 ///
 /// The mines share the energy: if less is given than needed, each yields its part. The basic income stays whole.
 #[tactic(auto, using(crate::proofs::Shares::are_yields), unfolding(crate::specs::Yields::hourly_of))]
 pub fn hourly(w: &Works, speed: u32) -> Hourly
     requires works { IsInRange w.now }
-    requires speed { speed ≤ 100 }
+    requires speed { speed ≤ TOP_SPEED }
     ensures value { result ≡ hourly_of w.now speed }
     ensures bounds { AreYields w.now speed result }
     ensures within { AreSmall result }
@@ -81,7 +82,7 @@ fn mines(works: &Works) -> Resources
 #[tactic(auto, using(crate::proofs::Shares::shares, base_num::proofs::Quotients::quotients))]
 fn scaled(mine: u64, speed: u32, given: u64, need: u64) -> u64
     requires mine { mine ≤ 16200 }
-    requires speed { speed ≤ 100 }
+    requires speed { speed ≤ TOP_SPEED }
     requires need { need ≤ 21600 }
     ensures bounds { IsScaled mine speed given need result }
     ensures value { result ≡ scaled mine speed given need }
