@@ -1,10 +1,13 @@
+ghost use Rattle.std.specs.Prelude.{None};
+
 use crate::{DONE, NOT_A_COMMAND, NOT_FOUNDED, SINK_FAULT, SOURCE_FAULT, answer, run};
 use base_ids::{Coord, Player};
 use base_text::Bytes;
-use ports::{MemoryClock, MemorySink, MemorySource};
+use ports::{Failed, MemoryClock, MemorySink, MemorySource, Sink, Source};
 use reply_text::write_reply;
 use request_text::{LineReader, Request};
 use std::alloc::{AllocError, Global};
+use std::cell::Cell;
 use std::test::Fail;
 use tick_model::StrictUniverse;
 
@@ -410,5 +413,73 @@ fn two_hundred_thousand_requests_are_answered(rt: HostRuntime) -> Result<(), Fai
         sink.written()
             .ends_with(b"no 199999 199999 1\nno 200000 200000 1\n")
     );
+    Ok(())
+}
+
+/// An input in pieces. It gives one piece a read, and only after as many answers as the piece names; else the read fails.
+#[derive(Drop)]
+struct InTurn<'a> {
+    pieces: &'a [(&'a [u8], u64)],
+    answers: &'a Cell<u64>,
+    faults: u64,
+}
+
+impl Source for InTurn<'_> {
+    ghost left = { λ _. None };
+
+    ghost faults = { λ s. s.faults };
+
+    fn read(&mut self, into: &mut [u8]) -> Result<usize, Failed> {
+        let [(piece, due), rest @ ..] = self.pieces else {
+            return Ok(0);
+        };
+        if self.answers.get() < *due || into.len() < piece.len() {
+            self.faults = self.faults.saturating_add(1);
+            return Err(Failed);
+        }
+        into[..piece.len()].copy_from_slice(piece);
+        self.pieces = rest;
+        Ok(piece.len())
+    }
+}
+
+/// It counts the pieces that it is handed.
+#[derive(Drop)]
+struct Counting<'a> {
+    answers: &'a Cell<u64>,
+}
+
+impl Sink for Counting<'_> {
+    ghost written = { λ _. None };
+
+    ghost faults = { λ _. 0 };
+
+    fn write(&mut self, from: &[u8]) -> Result<usize, Failed> {
+        self.answers.set(self.answers.get().saturating_add(1));
+        Ok(from.len())
+    }
+}
+
+#[test]
+fn each_line_is_answered_before_the_next_is_read(rt: HostRuntime) -> Result<(), Fail> {
+    let alloc = rt.alloc();
+    let answers = Cell::new(0);
+    let pieces: [(&[u8], u64); 5] = [
+        (FOUNDING, 0),
+        (b"@1 2 planet 1:1:1\n", 0),
+        (b"x\n", 1),
+        (b"@2 1 planet 1:1:1\n", 2),
+        (b"", 3),
+    ];
+    let mut source = InTurn {
+        pieces: &pieces,
+        answers: &answers,
+        faults: 0,
+    };
+    let mut sink = Counting { answers: &answers };
+    let mut clock = MemoryClock::new(&[]);
+    let words = vec![in alloc; String::from_str(alloc, "trial")?]?;
+    let status = run(alloc, &words, &mut source, &mut sink, &mut clock);
+    assert_eq!(rt; (status, answers.get()), (DONE, 3));
     Ok(())
 }
