@@ -7,9 +7,6 @@ use tick_model::Rules;
 /// The most requests that the history of a universe may keep.
 pub const MOST_REQUESTS: u32 = 262144;
 
-/// The greatest speed of an economy.
-pub const GREATEST_SPEED: u32 = 100;
-
 /// What the line `universe SEED SPEED CAPACITY MOMENT` says: the rules of the universe, how many requests its
 /// history may keep, and the second at which it begins.
 #[derive(Clone, Copy, Debug)]

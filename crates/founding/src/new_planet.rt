@@ -1,15 +1,10 @@
 ghost use Rattle.std.specs.Prelude.{◌≤◌, ◌≤ℤ◌};
-ghost use Rattle.founding.specs.declared.new_planet.TheConstants.{COLDEST, HOTTEST, MOST_FIELDS};
+ghost use Rattle.rates.specs.declared.works.TheConstants.{COLDEST, HOTTEST};
+ghost use Rattle.founding.specs.declared.new_planet.TheConstants.{MOST_FIELDS};
 
 use base_ids::{Coord, Player};
 use rates::{GRAINS, Resources};
 use tick_model::Planet;
-
-/// The least maximum temperature of a planet, in degrees.
-pub const COLDEST: i16 = -130;
-
-/// The greatest maximum temperature of a planet, in degrees.
-pub const HOTTEST: i16 = 260;
 
 /// The most fields of a planet.
 pub const MOST_FIELDS: u16 = 400;

@@ -5,11 +5,13 @@ ghost use Rattle.founding.specs.Lines.{heading_words, planet_words, player_words
 ghost use Rattle.founding.specs.declared.heading.Heading.{Heading};
 ghost use Rattle.founding.specs.declared.new_planet.NewPlanet.{NewPlanet};
 
-use crate::heading::{GREATEST_SPEED, Heading, MOST_REQUESTS};
-use crate::new_planet::{COLDEST, HOTTEST, MOST_FIELDS, NewPlanet};
+use crate::heading::{Heading, MOST_REQUESTS};
+use crate::new_planet::{MOST_FIELDS, NewPlanet};
 use base_ids::Player;
 use base_text::{cut, is_same, number, positive_number, signed_number};
+use catalog::TOP_SPEED;
 use ports::LATEST;
+use rates::{COLDEST, HOTTEST};
 use request_text::{coord, player};
 use tick_model::Rules;
 
@@ -40,7 +42,7 @@ pub fn read_heading(line: &[u8]) -> Option<Heading>
         return None;
     }
     let seed = number(seed, u64::MAX)?;
-    let speed = positive_number(speed, u64::from(GREATEST_SPEED))?;
+    let speed = positive_number(speed, u64::from(TOP_SPEED))?;
     let capacity = positive_number(capacity, u64::from(MOST_REQUESTS))?;
     let moment = number(moment, LATEST)?;
     Some(Heading {

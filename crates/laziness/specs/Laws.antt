@@ -102,7 +102,7 @@ pub record ModelLaws (M : Model) : Type 0 where
   pub falls : (u : M.Universe) (e : M.Event) → M.Fine u → Stands M u e → M.measure (M.effect e u) < M.measure u
   -- what is found next is next
   pub next_found : (S : M.Id → Bool) (t : ℕ) (u : M.Universe) (e : M.Event) → M.Fine u → M.next S t u ≡ Some e → IsNext M S t u e
-  -- and nothing is found only where nothing is due
+  -- and nothing is found only if nothing is due
   pub none_found : (S : M.Id → Bool) (t : ℕ) (u : M.Universe) → M.Fine u → M.next S t u ≡ None → NoneDue M S t u
   -- what a request asks for is in the directory
   pub asked_listed : (u : M.Universe) (a : M.Ask) (y : M.Id) → M.Fine u → M.asks a (M.view u) y ≡ true → Contains M.ids y

@@ -49,7 +49,7 @@ abbrev pub on_way : Option Parcel → ℕ
 on_way None = 0
 on_way (Some parcel) = 1
 
--- nothing can be sent where a parcel is on its way or the stock is too small
+-- nothing can be sent if a parcel is on its way or the stock is too small
 abbrev pub may_send : ℕ → Seen → Bool
 may_send amount seen = elim seen.parcel [ None ↦ nat_le amount seen.stock | Some parcel ↦ false ]
 

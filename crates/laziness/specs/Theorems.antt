@@ -83,7 +83,7 @@ pub record CellsDecide (M : Model) : Type 0 where
   -- the lazy universe after a history can be brought to any later second
   pub can_bring : (base : Base M) (history : List M.Entry) (S : M.Id → Bool) (t : ℕ) → IsBase M base → InOrder M base.moment history → last_moment M base.moment history ≤ t
       → IsClosed M (M.view (lazy M base history).universe) t S → CanBring M S t (lazy M base history)
-  -- where none is due nothing happens
+  -- if none is due, nothing happens
   pub none : (S : M.Id → Bool) (t : ℕ) (f : Stamps M) → M.Fine f.universe → NoneDue M S t f.universe → happened M S t f ≡ f
   -- the first event acts
   pub first : (S : M.Id → Bool) (t : ℕ) (f : Stamps M) (e : M.Event) → CanBring M S t f → IsNext M S t f.universe e → FirstActs M S t f e

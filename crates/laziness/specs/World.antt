@@ -19,7 +19,7 @@ abbrev pub InOrder : (M : Model) → ℕ → List M.Entry → Type 0
 InOrder M moment [] = Unit {0}
 InOrder M moment (entry ∷ later) = (moment ≤ M.moment_of entry) × InOrder M (M.moment_of entry) later
 
--- the moment of the last entry, or this one where there is none
+-- the moment of the last entry, or this one if there is none
 abbrev pub last_moment : (M : Model) → ℕ → List M.Entry → ℕ
 last_moment M moment [] = moment
 last_moment M moment (entry ∷ later) = last_moment M (M.moment_of entry) later

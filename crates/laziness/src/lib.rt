@@ -1,5 +1,5 @@
 //! Lazy equals ticking: for every model that meets a list of laws, a universe whose cells stand at seconds of their
-//! own, each brought up only where it is needed, answers as the universe that ticks second by second.
+//! own, each brought up only when it is needed, answers as the universe that ticks second by second.
 #![tactic(auto)]
 
 mod laws;

@@ -17,12 +17,12 @@ abbrev pub stage_word : Stage → List ℕ
 stage_word Out = codes "out"
 stage_word Back = codes "back"
 
--- N GROUP MISSION FROM TO: which fleet it is, and what it is sent for
+-- F GROUP MISSION A B: which fleet it is, and what it is sent for
 abbrev pub course_words : FleetLine → List (List ℕ)
 course_words fleet =
     decimal fleet.number ∷ decimal fleet.group ∷ mission_word fleet.mission ∷ coord_text fleet.from ∷ coord_text fleet.to ∷ []
 
--- STAGE SECOND M C D SHIPS: how far it is, and what it has on board
+-- STAGE SECOND METAL CRYSTAL DEUTERIUM SHIPS: how far it is, and what it has on board
 abbrev pub state_words : FleetLine → List (List ℕ)
 state_words fleet = stage_word fleet.stage ∷ decimal fleet.second ∷ units_text fleet.cargo ∷ ships_text fleet.ships ∷ []
 

@@ -4,7 +4,7 @@ use Rattle.std.specs.Fmt.{decimal}
 use Rattle.reply_text.specs.Words.{line}
 
 -- `starts LEVEL SECOND` for a building or a technology: the level and the second at which it is done;
--- `starts N SECOND` for a batch of a yard: its count and the second of its first unit
+-- `starts COUNT SECOND` for a batch of a yard: its count and the second of its first unit
 abbrev pub starts_line : ℕ → ℕ → List ℕ
 starts_line amount second = line (codes "starts" ∷ decimal amount ∷ decimal second ∷ [])
 

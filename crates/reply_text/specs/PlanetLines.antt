@@ -3,8 +3,7 @@ use Rattle.std.specs.Prelude.{ℕ, List, [], ◌∷◌, codes, filter}
 use Rattle.std.specs.Fmt.{decimal, signed_decimal}
 use Rattle.base_ids.specs.Text.{coord_text, player_text}
 use Rattle.catalog.specs.Classes.{is_building, is_unit}
-use Rattle.catalog.specs.declared.kind.Kind.{Kind}
-use Rattle.catalog.specs.declared.kind.Kind.TheVariants.{MetalMine, CrystalMine, DeuteriumSynth, SolarPlant, Satellite}
+use Rattle.catalog.specs.declared.classes.TheConstants.{WORKS}
 use Rattle.catalog.specs.declared.kind.TheConstants.{KINDS}
 use Rattle.reply_text.specs.Units.{units_text}
 use Rattle.reply_text.specs.Words.{kind_lines, line}
@@ -16,7 +15,7 @@ abbrev pub planet_line : PlanetHead → List ℕ
 planet_line planet =
     line (codes "planet" ∷ coord_text planet.at ∷ player_text planet.owner ∷ signed_decimal planet.temperature ∷ decimal planet.fields ∷ decimal planet.used ∷ [])
 
--- NAME M C D: metal, crystal and deuterium
+-- NAME METAL CRYSTAL DEUTERIUM
 abbrev pub amounts_line : List ℕ → Units → List ℕ
 amounts_line name units = line (name ∷ units_text units ∷ [])
 
@@ -44,13 +43,9 @@ debris_line metal crystal = line (codes "debris" ∷ decimal metal ∷ decimal c
 abbrev pub level_lines : List ℕ → List ℕ
 level_lines levels = kind_lines (codes "level") 0 (filter is_building KINDS) levels
 
--- the kinds whose work can be set, in the order in which their settings stand
-abbrev pub works : List Kind
-works = MetalMine ∷ CrystalMine ∷ DeuteriumSynth ∷ SolarPlant ∷ Satellite ∷ []
-
--- `set WORK TENTHS` for each setting other than 10, in this order
+-- `set WORK TENTHS` for each setting other than 10, in the order of the works
 abbrev pub set_lines : List ℕ → List ℕ
-set_lines settings = kind_lines (codes "set") 10 works settings
+set_lines settings = kind_lines (codes "set") 10 WORKS settings
 
 -- `units UNIT COUNT` for each ship and defence above 0, by the numbers of the kinds
 abbrev pub unit_lines : List ℕ → List ℕ

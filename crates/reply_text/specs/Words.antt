@@ -9,7 +9,7 @@ use Rattle.catalog.specs.declared.kind.Kind.{Kind}
 unfoldable pub line : List (List ℕ) → List ℕ
 line words = join_with_byte 32 words ++ codes "\n"
 
--- LABEL NAME N, or nothing if the number is the usual one
+-- LABEL KIND NUMBER, or nothing if the number is the usual one
 abbrev pub kind_line : List ℕ → ℕ → Kind → ℕ → List ℕ
 kind_line label usual kind number =
     if number == usual then [] else line (label ∷ kind_word kind ∷ decimal number ∷ [])

@@ -26,7 +26,7 @@ fn number_at(numbers: Numbers, place: usize) -> u64
     }
 }
 
-/// Appends the line `LABEL NAME N`, or nothing if the number is the usual one.
+/// Appends the line `LABEL KIND NUMBER`, or nothing if the number is the usual one.
 #[tactic(auto, unfolding(crate::specs::Words::line))]
 fn push_kind(
     text: &mut String,
@@ -44,7 +44,7 @@ fn push_kind(
     writeln!(text, "{label} {kind} {number}")
 }
 
-/// A line `LABEL NAME N` for each kind whose number isn't the usual one.
+/// A line `LABEL KIND NUMBER` for each kind whose number isn't the usual one.
 fn kinds_text(
     alloc: Global,
     label: &str,

@@ -6,7 +6,7 @@ use crate::lines::push_line;
 use crate::units::Units;
 use base_ids::{Coord, Player};
 use base_text::Bytes;
-use catalog::{KINDS, Kind, UNIT_KINDS};
+use catalog::{KINDS, UNIT_KINDS, WORKS};
 use std::alloc::{AllocError, Global};
 
 /// What the first line of a planet shows: its place, its owner, its maximum temperature in degrees, its fields, and how
@@ -19,15 +19,6 @@ pub struct PlanetHead {
     pub fields: u16,
     pub used: u16,
 }
-
-/// The kinds whose work can be set, in the order of their settings.
-const WORKS: [Kind; 5] = [
-    Kind::MetalMine,
-    Kind::CrystalMine,
-    Kind::DeuteriumSynth,
-    Kind::SolarPlant,
-    Kind::Satellite,
-];
 
 /// Appends `planet C K TEMPERATURE FIELDS USED`: a planet, with its maximum temperature in degrees.
 ///
