@@ -1,8 +1,9 @@
 ghost use Rattle.std.specs.Prelude.{◌≤◌};
+ghost use Rattle.base_ids.specs.declared.numbers.TheConstants.{LAST_GALAXY, LAST_POSITION, LAST_SYSTEM};
 
 use std::fmt;
 
-/// A place for a planet: galaxy 1 to 9, system 1 to 499 and position 1 to 15.
+/// A place for a planet: galaxy 1 to `LAST_GALAXY`, system 1 to `LAST_SYSTEM` and position 1 to `LAST_POSITION`.
 ///
 /// Coordinates are ordered by galaxy, then system, then position. The text is `G:S:P`.
 #[derive(Clone, Copy, Debug, PartialEq, Eq, PartialOrd, Ord)]
@@ -11,11 +12,11 @@ pub struct Coord {
     pub s: u16,
     pub p: u8,
     pub ghost galaxy_from: { 1 ≤ g },
-    pub ghost galaxy_to: { g ≤ 9 },
+    pub ghost galaxy_to: { g ≤ LAST_GALAXY },
     pub ghost system_from: { 1 ≤ s },
-    pub ghost system_to: { s ≤ 499 },
+    pub ghost system_to: { s ≤ LAST_SYSTEM },
     pub ghost position_from: { 1 ≤ p },
-    pub ghost position_to: { p ≤ 15 },
+    pub ghost position_to: { p ≤ LAST_POSITION },
 }
 
 impl fmt::Display for Coord {

@@ -15,7 +15,7 @@ pub use coord::Coord;
 pub use fleet_number::FleetNumber;
 pub use key::Key;
 pub use laws::orders;
-pub use numbers::LAST_NUMBER;
+pub use numbers::{LAST_GALAXY, LAST_NUMBER, LAST_PLAYER, LAST_POSITION, LAST_SYSTEM};
 pub use player::Player;
 pub use system::System;
 

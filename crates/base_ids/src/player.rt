@@ -1,13 +1,14 @@
 ghost use Rattle.std.specs.Prelude.{◌≤◌};
+ghost use Rattle.base_ids.specs.declared.numbers.TheConstants.{LAST_PLAYER};
 
 use std::fmt;
 
-/// A player's number, 1 to 65535. Its text is the number.
+/// A player's number, 1 to `LAST_PLAYER`. Its text is the number.
 #[derive(Clone, Copy, Debug, PartialEq, Eq, PartialOrd, Ord)]
 pub struct Player {
     pub k: u32,
     pub ghost from: { 1 ≤ k },
-    pub ghost to: { k ≤ 65535 },
+    pub ghost to: { k ≤ LAST_PLAYER },
 }
 
 impl fmt::Display for Player {

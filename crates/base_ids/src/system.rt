@@ -1,16 +1,17 @@
 ghost use Rattle.std.specs.Prelude.{◌≤◌};
+ghost use Rattle.base_ids.specs.declared.numbers.TheConstants.{LAST_GALAXY, LAST_SYSTEM};
 
 use std::fmt;
 
-/// A system of 15 positions: galaxy 1 to 9 and system 1 to 499. Its text is `G:S`.
+/// A system of positions: galaxy 1 to `LAST_GALAXY` and system 1 to `LAST_SYSTEM`. Its text is `G:S`.
 #[derive(Clone, Copy, Debug, PartialEq, Eq, PartialOrd, Ord)]
 pub struct System {
     pub g: u8,
     pub s: u16,
     pub ghost galaxy_from: { 1 ≤ g },
-    pub ghost galaxy_to: { g ≤ 9 },
+    pub ghost galaxy_to: { g ≤ LAST_GALAXY },
     pub ghost system_from: { 1 ≤ s },
-    pub ghost system_to: { s ≤ 499 },
+    pub ghost system_to: { s ≤ LAST_SYSTEM },
 }
 
 impl fmt::Display for System {

@@ -1,4 +1,4 @@
-use crate::{CellId, Coord, FleetNumber, Key, LAST_NUMBER, Player, System};
+use crate::{CellId, Coord, FleetNumber, Key, LAST_NUMBER, LAST_PLAYER, Player, System};
 use std::test::Fail;
 
 #[test]
@@ -25,7 +25,7 @@ fn cells_go_by_player_then_coordinate(rt: HostRuntime) {
     let rising: [CellId; 6] = [
         CellId::Account(Player { k: 1 }),
         CellId::Account(Player { k: 2 }),
-        CellId::Account(Player { k: 65535 }),
+        CellId::Account(Player { k: LAST_PLAYER }),
         CellId::Planet(Coord { g: 1, s: 1, p: 15 }),
         CellId::Planet(Coord { g: 1, s: 2, p: 1 }),
         CellId::Planet(Coord { g: 2, s: 1, p: 1 }),
@@ -92,7 +92,7 @@ fn players_and_coordinates_are_written_as_in_requests(rt: HostRuntime) -> Result
         s: 499,
         p: 15,
     };
-    let player = Player { k: 65535 };
+    let player = Player { k: LAST_PLAYER };
     let text = format!(in rt.alloc(); "{player} {at}")?;
     assert_eq!(rt; text.as_str(), "65535 9:499:15");
     Ok(())

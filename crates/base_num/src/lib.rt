@@ -1,5 +1,5 @@
-//! Whole numbers of up to 128 bits: quotients rounded down and up, and whole square roots. Nothing here takes
-//! memory or refuses.
+//! Whole numbers of up to 128 bits: quotients rounded down and up, and whole square roots. Each function always
+//! answers, and none allocates.
 #![tactic(auto)]
 
 mod division;

@@ -6,7 +6,7 @@ use Rattle.base_text.specs.Parts.{parts, Lacks}
 use Rattle.base_text.proofs.Splitting.{parts-one, parts-join, join-parts}
 use Rattle.base_text.proofs.Lacking.{decimal_lacks_colon}
 
--- the pieces, where none has the separator
+-- the parts are the pieces, if none has the separator
 pub parts-join_with_byte : (c : ℕ) (first : List ℕ) (more : List (List ℕ)) → AllByRecursion (Lacks c) (first ∷ more) → parts c (join_with_byte c (first ∷ more)) ≡ first ∷ more
 parts-join_with_byte c first [] free = parts-one c first free.0
 parts-join_with_byte c first (next ∷ more) free = parts-join c first (join_with_byte c (next ∷ more)) free.0 ∙ ap (λ ps. first ∷ ps) (parts-join_with_byte c next more free.1)
@@ -43,7 +43,7 @@ three_read text first rest second third a b c e f g h i =
     let last : parts 58 third ≡ decimal c ∷ [] = ap (parts 58) i ∙ parts-decimal c in
     text_of_three text a b c (cc)
 
--- two such texts are the same only where the numbers are
+-- two such texts are the same only if the numbers are
 pub three_once : (a b c x y z : ℕ) → a < 2 ^ 64 → b < 2 ^ 64 → c < 2 ^ 64 → x < 2 ^ 64 → y < 2 ^ 64 → z < 2 ^ 64 → decimal a ++ codes ":" ++ decimal b ++ codes ":" ++ decimal c ≡ decimal x ++ codes ":" ++ decimal y ++ codes ":" ++ decimal z → (a ≡ x) × (b ≡ y) × (c ≡ z)
 three_once a b c x y z la lb lc lx ly lz e =
     let same : decimal a ∷ decimal b ∷ decimal c ∷ [] ≡ decimal x ∷ decimal y ∷ decimal z ∷ [] = sym (parts-three a b c) ∙ ap (parts 58) e ∙ parts-three x y z in

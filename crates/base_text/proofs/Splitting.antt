@@ -1,4 +1,4 @@
--- A text and its parts: how they follow from where a separator stands, and how they determine the text.
+-- A text and its parts: how they follow from the places of the separators, and how they determine the text.
 use Rattle.std.proofs.Common.{◌≡◌, ◌≢◌, ℕ, suc, ◌+◌, ◌-◌, ◌<◌, Bool, true, false, List, [], ◌∷◌, ◌++◌, length, get_or, take, drop, refl, ◌∙◌, ap, arith, eqb, ne_eqb, eq-eqb, add-one, cond, length-drop, take_all}
 use Rattle.std.specs.List.{All, onto_first, join_with_byte}
 use Rattle.std.specs.Str.Lines.{lines, strip_carriage_return}

@@ -71,7 +71,7 @@ named_itself LargeDome = refl
 pub word_once : (a b : Kind) → kind_word a ≡ kind_word b → a ≡ b
 word_once a b same = sym (named_itself a) ∙ ap (λ word. first_named MetalMine word KINDS) same ∙ named_itself b
 
--- where a word names a kind that doesn't pass a test, it names none that does
+-- if a word names a kind that doesn't pass a test, it names none that does
 pub no_such : (test : Kind → Bool) (word : List ℕ) (kind other : Kind) → word ≡ kind_word kind → test kind ≡ false → word ≡ kind_word other → IsTrue (test other) → ⊥
 no_such test word kind other first fails second passes =
     let one : kind ≡ other = word_once kind other (sym first ∙ second) in

@@ -25,7 +25,7 @@ const LIMITS: [u64; 17] = [
     203_350_000,
 ];
 
-/// Up to how many units of a resource production fills a planet's stock, by the level of its store, 0 to 16.
+/// How far production fills a planet's stock, in units, by the level of its store, 0 to 16.
 pub fn storage_limit(level: u8) -> u64
     requires { level ≤ level_cap_of MetalStore }
     ensures value { result ≡ storage_limit level }

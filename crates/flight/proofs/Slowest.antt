@@ -117,7 +117,7 @@ present_all P (kind ∷ kinds) (count ∷ counts) all =
     elim (eqb count 0) as (λ b. All P (cond b (present kinds counts) (kind ∷ present kinds counts)))
     [ true ↦ rest | false ↦ all_more P kind (present kinds counts) (all 0 kind (omega arith)) rest ]
 
--- where a count is not 0, a kind is there
+-- if a count is not 0, a kind is there
 pub present_some : (kinds : List Kind) (counts : List ℕ) → length counts ≤ length kinds → IsTrue (list_any (λ count. nat_lt 0 count) counts) → 0 < length (present kinds counts)
 unfolding present
 present_some kinds [] within some = cc

@@ -1,5 +1,5 @@
-//! How far, how fast and how long fleets fly, what they burn and what they carry: exact values, in constant time, that
-//! refuse nothing and take no memory.
+//! How far, how fast and how long fleets fly, what they burn and what they carry: exact values, in constant time. Each
+//! function always answers, and none allocates.
 #![tactic(auto)]
 
 mod distances;

@@ -1,5 +1,5 @@
-//! What each level and each unit costs, and how long it takes: exact values, in constant time, that refuse nothing and
-//! take no memory.
+//! What each level and each unit costs, and how long it takes: exact values, in constant time. Each function always
+//! answers, and none allocates.
 #![tactic(auto)]
 
 mod duration;

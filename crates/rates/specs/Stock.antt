@@ -16,7 +16,7 @@ gain_once limit hourly grains = if nat_lt grains limit then min (grains + hourly
 abbrev pub hourly_yield : ℕ → Resources
 hourly_yield speed = record { metal = 20 * speed; crystal = 10 * speed; deuterium = 0 }
 
--- Up to where production fills a planet's stocks, in units: no store can be built yet, so each has level 0.
+-- How far production fills a planet's stocks, in units: no store can be built yet, so each has level 0.
 -- Rule: docs/RULES.md, "Limits".
 abbrev pub stored : Resources
 stored = record { metal = storage_limit 0; crystal = storage_limit 0; deuterium = storage_limit 0 }

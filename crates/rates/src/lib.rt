@@ -1,4 +1,4 @@
-//! What a planet gains: exact values, in constant time, that refuse nothing and take no memory.
+//! What a planet gains: exact values, in constant time. Each function always answers, and none allocates.
 #![tactic(auto)]
 
 mod growth;

@@ -5,7 +5,7 @@ ghost use Rattle.rates.specs.Times.{times};
 use crate::resources::Resources;
 use catalog::{CAP, TOP_SPEED, storage_limit};
 
-/// The grains in one unit of a resource: stocks are counted in grains.
+/// How many grains one unit of a resource has. Stocks are counted in grains.
 pub const GRAINS: u64 = 3600;
 
 /// The grains of a stock after `seconds` seconds of a yield of `hourly` units an hour.
@@ -40,7 +40,7 @@ pub fn basic_income(speed: u32) -> Resources
     }
 }
 
-/// Up to where production fills a planet's stocks, in units: no store can be built yet, so each has level 0.
+/// How far production fills a planet's stocks, in units: no store can be built yet, so each has level 0.
 pub fn storage() -> Resources
     ensures { result ≡ stored }
 {

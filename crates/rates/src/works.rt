@@ -5,8 +5,9 @@ pub const COLDEST: i16 = -130;
 pub const HOTTEST: i16 = 260;
 
 /// The works of a planet: the levels of the metal mine, the crystal mine, the deuterium synthesizer and the solar
-/// plant, 0 to 30 each; the tenths at which the four and then the satellites work, 0 to 10 each; the number of
-/// satellites, up to `catalog::UNITS`; and the planet's maximum temperature in degrees, `COLDEST` to `HOTTEST`.
+/// plant, 0 to 30 each; the tenths at which they and the satellites work, 0 to 10 each, in the order of
+/// `catalog::WORKS`; the number of satellites, up to `catalog::UNITS`; and the planet's maximum temperature in degrees,
+/// `COLDEST` to `HOTTEST`.
 #[derive(Clone, Copy, Debug, PartialEq, Eq)]
 pub struct Works {
     pub metal: u8,
