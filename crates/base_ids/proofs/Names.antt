@@ -6,6 +6,7 @@ use Rattle.base_ids.specs.declared.player.Player.{Player}
 use Rattle.base_ids.specs.declared.system.System.{System}
 use Rattle.base_ids.specs.declared.fleet_number.FleetNumber.{FleetNumber}
 use Rattle.base_ids.specs.declared.key.Key.{Key}
+use Rattle.base_ids.specs.declared.numbers.TheConstants.{LAST_NUMBER}
 
 -- coordinates with the same numbers are one
 pub coord_is : (a b : Coord) → a.g ≡ b.g → a.s ≡ b.s → a.p ≡ b.p → a ≡ b
@@ -32,7 +33,7 @@ player_is a b same =
 -- fleets with the same number are one
 pub fleet_is : (a b : FleetNumber) → a.f ≡ b.f → a ≡ b
 fleet_is a b same =
-    let at = λ (f : ℕ). (from : 1 ≤ f) (to : f < 2 ^ 40) → a ≡ record a { f = f; from = from; to = to } in
+    let at = λ (f : ℕ). (from : 1 ≤ f) (to : f ≤ LAST_NUMBER) → a ≡ record a { f = f; from = from; to = to } in
     subst at same (λ from to i. record a { from = le_prop a.from from i; to = le_prop a.to to i }) b.from b.to
 
 -- systems with the same numbers are one
@@ -53,7 +54,7 @@ key_is a b second number step =
     let at_second = λ (s : ℕ). (in_time : s < 2 ^ 42) → a ≡ record a { second = s; in_time = in_time } in
     let first = subst at_second second (λ in_time i. record a { in_time = le_prop a.in_time in_time i }) b.in_time in
     let c : Key = record a { second = b.second; in_time = b.in_time } in
-    let at_number = λ (n : ℕ). (from : 1 ≤ n) (to : n < 2 ^ 40) → c ≡ record c { number = n; number_from = from; number_to = to } in
+    let at_number = λ (n : ℕ). (from : 1 ≤ n) (to : n ≤ LAST_NUMBER) → c ≡ record c { number = n; number_from = from; number_to = to } in
     let next =
     subst at_number number (λ from to i. record c { number_from = le_prop c.number_from from i; number_to = le_prop c.number_to to i }) b.number_from b.number_to in
     let d : Key = record c { number = b.number; number_from = b.number_from; number_to = b.number_to } in

@@ -2,7 +2,7 @@
 use Rattle.std.proofs.Common.{◌≡◌, ℕ, Bool, true, false, eqb, ltb, refl, ap, arith}
 use Rattle.std.specs.Prelude.{◌&&◌, ◌||◌}
 use Rattle.std.proofs.lemmas.Bool.Decides.{nat_tests}
-use Rattle.base_ids.specs.Order.{IsOrder, cell_before, coord_before, key_before, player_before}
+use Rattle.base_ids.specs.Order.{IsOrder, cell_before, EventKey, coord_before, event_key, key_before, player_before}
 use Rattle.base_ids.specs.declared.cell_id.CellId.{CellId}
 use Rattle.base_ids.specs.declared.cell_id.CellId.TheVariants.{Account, Planet}
 use Rattle.base_ids.proofs.Names.{coord_is, key_is, player_is}
@@ -26,6 +26,10 @@ lex-second a b c x y z first second = grind (arith, nat_tests)
 lex-third : (a b c x y z : ℕ) → lex a b c x y z ≡ false → lex x y z a b c ≡ false → c ≡ z
 lex-third a b c x y z first second = grind (arith, nat_tests)
 
+-- events with the same numbers are one
+event_is : (a b : EventKey) → a.second ≡ b.second → a.number ≡ b.number → a.step ≡ b.step → a ≡ b
+event_is a b second number step = λ i. record { second = second i; number = number i; step = step i }
+
 pub players_ordered : IsOrder player_before
 players_ordered = record {
   never_itself = λ a. grind (arith, nat_tests);
@@ -40,10 +44,22 @@ coords_ordered = record {
   total = λ a b first second. coord_is a b (lex-first a.g a.s a.p b.g b.s b.p first second) (lex-second a.g a.s a.p b.g b.s b.p first second) (lex-third a.g a.s a.p b.g b.s b.p first second);
 }
 
-pub keys_ordered : IsOrder key_before
-keys_ordered = record {
+pub events_ordered : IsOrder key_before
+events_ordered = record {
   never_itself = λ a. lex-itself a.second a.number a.step;
   transitive = λ a b c first second. lex-transitive a.second a.number a.step b.second b.number b.step c.second c.number c.step first second;
+  total = λ a b first second.
+      let seconds = lex-first a.second a.number a.step b.second b.number b.step first second in
+      let numbers = lex-second a.second a.number a.step b.second b.number b.step first second in
+      let steps = lex-third a.second a.number a.step b.second b.number b.step first second in
+      event_is a b seconds numbers steps;
+}
+
+-- keys with the same numbers are one
+pub keys_ordered : IsOrder (λ a b. key_before (event_key a) (event_key b))
+keys_ordered = record {
+  never_itself = λ a. events_ordered.never_itself (event_key a);
+  transitive = λ a b c first second. events_ordered.transitive (event_key a) (event_key b) (event_key c) first second;
   total = λ a b first second. key_is a b (lex-first a.second a.number a.step b.second b.number b.step first second) (lex-second a.second a.number a.step b.second b.number b.step first second) (lex-third a.second a.number a.step b.second b.number b.step first second);
 }
 

@@ -1,11 +1,12 @@
 -- The orders of players, places, cells and events. Rules: docs/RULES.md, "Names and their order".
-use Rattle.std.specs.Prelude.{◌≡◌, Bool, true, false, nat_lt, ◌==◌, ◌&&◌, ◌||◌}
+use Rattle.std.specs.Prelude.{◌≡◌, ℕ, Bool, true, false, nat_lt, ◌==◌, ◌&&◌, ◌||◌}
 use Rattle.base_ids.specs.declared.coord.Coord.{Coord}
 use Rattle.base_ids.specs.declared.player.Player.{Player}
 use Rattle.base_ids.specs.declared.key.Key.{Key}
 use Rattle.base_ids.specs.declared.cell_id.CellId.{CellId}
 use Rattle.base_ids.specs.declared.cell_id.CellId.TheVariants.{Account, Planet}
 
+-- by number
 abbrev pub player_before : Player → Player → Bool
 player_before a b = nat_lt a.k b.k
 
@@ -20,8 +21,18 @@ cell_before (Account a) (Planet b) = true
 cell_before (Planet a) (Account b) = false
 cell_before (Planet a) (Planet b) = coord_before a b
 
+-- what orders an event: its second, the number of its request and its step
+pub record EventKey : Type 0 where
+  pub second : ℕ
+  pub number : ℕ
+  pub step : ℕ
+
+-- the numbers of a key
+abbrev pub event_key : Key → EventKey
+event_key key = record { second = key.second; number = key.number; step = key.step }
+
 -- by second, then number, then step
-abbrev pub key_before : Key → Key → Bool
+abbrev pub key_before : EventKey → EventKey → Bool
 key_before a b = nat_lt a.second b.second || a.second == b.second && (nat_lt a.number b.number || a.number == b.number && nat_lt a.step b.step)
 
 -- a strict order in which any two are the same or one is before the other

@@ -25,9 +25,6 @@ impl fmt::Display for Coord {
     ghost output = { λ c. Some (coord_text c) };
 
     fn fmt<W: fmt::Write>(&self, f: &mut fmt::Formatter<W>) -> fmt::Result {
-        let galaxy = self.g;
-        let system = self.s;
-        let position = self.p;
-        write!(f, "{galaxy}:{system}:{position}")
+        write!(f, "{}:{}:{}", self.g, self.s, self.p)
     }
 }

@@ -6,6 +6,7 @@ mod coord;
 mod fleet_number;
 mod key;
 mod laws;
+mod numbers;
 mod player;
 mod system;
 
@@ -14,6 +15,7 @@ pub use coord::Coord;
 pub use fleet_number::FleetNumber;
 pub use key::Key;
 pub use laws::orders;
+pub use numbers::LAST_NUMBER;
 pub use player::Player;
 pub use system::System;
 

@@ -17,7 +17,6 @@ impl fmt::Display for Player {
     ghost output = { λ p. Some (player_text p) };
 
     fn fmt<W: fmt::Write>(&self, f: &mut fmt::Formatter<W>) -> fmt::Result {
-        let number = self.k;
-        write!(f, "{number}")
+        write!(f, "{}", self.k)
     }
 }

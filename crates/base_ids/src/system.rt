@@ -20,8 +20,6 @@ impl fmt::Display for System {
     ghost output = { λ system. Some (system_text system) };
 
     fn fmt<W: fmt::Write>(&self, f: &mut fmt::Formatter<W>) -> fmt::Result {
-        let galaxy = self.g;
-        let system = self.s;
-        write!(f, "{galaxy}:{system}")
+        write!(f, "{}:{}", self.g, self.s)
     }
 }

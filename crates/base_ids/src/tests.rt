@@ -1,12 +1,5 @@
-use crate::{CellId, Coord, FleetNumber, Key, Player, System};
+use crate::{CellId, Coord, FleetNumber, Key, LAST_NUMBER, Player, System};
 use std::test::Fail;
-
-#[test]
-fn accounts_come_before_planets(rt: HostRuntime) {
-    let account = CellId::Account(Player { k: 65535 });
-    let planet = CellId::Planet(Coord { g: 1, s: 1, p: 1 });
-    assert!(rt; account < planet);
-}
 
 #[test]
 fn coordinates_go_by_galaxy_then_system_then_position(rt: HostRuntime) {
@@ -65,7 +58,7 @@ fn keys_go_by_second_then_number_then_step(rt: HostRuntime) {
         },
         Key {
             second: 0,
-            number: 1_099_511_627_775,
+            number: LAST_NUMBER,
             step: 6,
         },
         Key {
@@ -109,9 +102,7 @@ fn players_and_coordinates_are_written_as_in_requests(rt: HostRuntime) -> Result
 fn systems_and_fleets_are_written_as_in_requests(rt: HostRuntime) -> Result<(), Fail> {
     let at = System { g: 9, s: 499 };
     let first = System { g: 1, s: 1 };
-    let fleet = FleetNumber {
-        f: 1_099_511_627_775,
-    };
+    let fleet = FleetNumber { f: LAST_NUMBER };
     let text = format!(in rt.alloc(); "{at} {first} {fleet}")?;
     assert_eq!(rt; text.as_str(), "9:499 1:1 1099511627775");
     Ok(())

@@ -1,5 +1,5 @@
 -- A text and its parts: how they follow from where a separator stands, and how they determine the text.
-use Rattle.std.proofs.Common.{◌≡◌, ◌≢◌, ℕ, suc, ◌+◌, ◌-◌, ◌<◌, Bool, true, false, List, [], ◌∷◌, ◌++◌, length, get_or, take, drop, refl, ◌∙◌, ap, arith, slice_get, eqb, ne_eqb, eq-eqb, add-one, cond, length-drop, take_all, None}
+use Rattle.std.proofs.Common.{◌≡◌, ◌≢◌, ℕ, suc, ◌+◌, ◌-◌, ◌<◌, Bool, true, false, List, [], ◌∷◌, ◌++◌, length, get_or, take, drop, refl, ◌∙◌, ap, arith, eqb, ne_eqb, eq-eqb, add-one, cond, length-drop, take_all}
 use Rattle.std.specs.List.{All, onto_first, join_with_byte}
 use Rattle.std.specs.Str.Lines.{lines, strip_carriage_return}
 use Rattle.std.proofs.Math.Seq.{split_at}
@@ -36,7 +36,7 @@ parts-more c (x ∷ xs) = either (eqb x c)
     either true = ([], (parts c xs, refl))
     either false = has_first x (parts c xs)
 
--- where a loop finds the first separator, and where it finds none
+-- the first separator is at a place, or there is none
 pub cut_at : (c : ℕ) (text : List ℕ) (i : ℕ) → i < length text → ((k : ℕ) → k < i → get_or text k 0 ≢ c) → get_or text i 0 ≡ c → parts c text ≡ take i text ∷ parts c (drop (i + 1) text)
 cut_at c text i within before here =
     let free : Lacks c (take i text) = record { apart = λ k h. let l : k < i = grind (arith, common_steps) in rw (get_or-take i text k 0 l) (before k l) } in
@@ -51,19 +51,8 @@ cut_range c text i within before here =
 pub cut_none : (c : ℕ) (text : List ℕ) → ((k : ℕ) → k < length text → get_or text k 0 ≢ c) → parts c text ≡ text ∷ []
 cut_none c text apart = parts-one c text (record { apart = apart })
 
-pub ruleset splitting = (cut_range, cut_none)
-
--- a part after the first
-pub later_part : (c : ℕ) (text first more : List ℕ) (k i : ℕ) → i < k → parts c text ≡ first ∷ parts c more → slice_get (parts c text) (k - i) ≡ slice_get (parts c more) (k - (i + 1))
-later_part c text first more k i h e = let n : k - i ≡ suc (k - (i + 1)) = omega arith in rw (e, n) refl
-
-pub no_later_part : (c : ℕ) (text : List ℕ) (k i : ℕ) → i < k → parts c text ≡ text ∷ [] → slice_get (parts c text) (k - i) ≡ None
-no_later_part c text k i h e = let n : k - i ≡ suc (k - (i + 1)) = omega arith in rw (e, n) refl
-
-pub ruleset choosing = (later_part, no_later_part)
-
 -- the lines of a text with a line feed, and of one without
-pub lines-cut : (text line rest : List ℕ) → parts 10 text ≡ line ∷ parts 10 rest → lines text ≡ strip_carriage_return line ∷ lines rest
+lines-cut : (text line rest : List ℕ) → parts 10 text ≡ line ∷ parts 10 rest → lines text ≡ strip_carriage_return line ∷ lines rest
 lines-cut text line rest e = let (y, (more, f)) = parts-more 10 rest in rw (e, f) refl
 
 pub lines-last : (text : List ℕ) → parts 10 text ≡ text ∷ [] → 0 < length text → lines text ≡ text ∷ []
@@ -82,5 +71,3 @@ strip_none (x ∷ xs) free =
 -- one with no carriage return
 pub lines-join_plain : (line rest : List ℕ) → Lacks 10 line → Lacks 13 line → lines (line ++ 10 ∷ rest) ≡ line ∷ lines rest
 lines-join_plain line rest free plain = lines-join line rest free ∙ ap (λ first. first ∷ lines rest) (strip_none line plain)
-
-pub ruleset lining = (lines-cut, lines-last)

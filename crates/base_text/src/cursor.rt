@@ -55,29 +55,24 @@ impl<'a> Parts<'a> {
         }
     }
 
-    /// The next part, which stays. `None` exactly where none is left.
+    /// The next part, which stays. `None` exactly if none is left.
     pub fn peek(&self) -> Option<&'a [u8]>
         ensures { MatchOption result
             (self.now ≡ [])
             (λ part. (rest : List (List ℕ)) × (self.now ≡ part.now ∷ rest)) }
     {
-        match self.piece {
-            Some(piece) => Some(piece.part),
-            None => None,
-        }
+        Some(self.piece?.part)
     }
 
-    /// Takes the next part. `None` exactly where none is left.
+    /// Takes the next part. `None` exactly if none is left.
     pub fn next(&mut self) -> Option<&'a [u8]>
         ensures { MatchOption result
             ((self.old ≡ []) × (self.new ≡ []))
             (λ part. self.old ≡ part.now ∷ self.new) }
     {
         let piece = self.piece?;
-        self.piece = match piece.rest {
-            Some(text) => Some(first_piece(text, self.separator)),
-            None => None,
-        };
+        let separator = self.separator;
+        self.piece = piece.rest.map(|text| first_piece(text, separator));
         Some(piece.part)
     }
 

@@ -42,29 +42,6 @@ impl Bytes {
         }
     }
 
-    /// The bytes of `bytes`, in its memory.
-    pub fn from_vec(bytes: Vec<u8>) -> Bytes
-        ensures { result ≡ bytes.items }
-    {
-        Bytes { items: bytes }
-    }
-
-    /// The bytes of `text`, in its memory.
-    pub fn from_string(text: String) -> Bytes
-        ensures { result ≡ string_bytes text }
-    {
-        Bytes {
-            items: text.into_bytes(),
-        }
-    }
-
-    /// The bytes as a `Vec`, in the same memory.
-    pub fn into_vec(self) -> Vec<u8>
-        ensures { result.items ≡ self }
-    {
-        self.items
-    }
-
     /// How many bytes there are.
     pub fn len(&self) -> usize
         ensures { result ≡ length self.now }
@@ -86,7 +63,7 @@ impl Bytes {
         self.items.as_slice()
     }
 
-    /// Appends the bytes. It fails only where memory runs out, and then appends none.
+    /// Appends the bytes. It fails only if memory runs out, and then appends none.
     pub fn push(&mut self, bytes: &[u8]) -> Result<(), AllocError>
         ensures ok { OnOk result (self.new ≡ self.old ++ bytes.now) }
         ensures err { OnErr result (self.new ≡ self.old) }
@@ -94,7 +71,7 @@ impl Bytes {
         self.items.extend_from_slice(bytes)
     }
 
-    /// Appends the line and a line feed. It fails only where memory runs out, and then appends
+    /// Appends the line and a line feed. It fails only if memory runs out, and then appends
     /// nothing.
     pub fn push_line(&mut self, line: &[u8]) -> Result<(), AllocError>
         ensures ok { OnOk result (self.new ≡ self.old ++ line.now ++ 10 ∷ []) }
@@ -106,7 +83,7 @@ impl Bytes {
         Ok(())
     }
 
-    /// Keeps the first `len` bytes, or all where there are no more, and drops the others. It keeps their memory for more.
+    /// Keeps the first `len` bytes, or all if there are no more, and drops the others. It keeps their memory for more.
     pub fn truncate(&mut self, len: usize)
         ensures { self.new ≡ take len self.old }
     {

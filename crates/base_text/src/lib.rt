@@ -1,5 +1,5 @@
-//! Reads texts that come as bytes: lines, words between spaces, and numbers. It also holds `Bytes`,
-//! a list of bytes that grows.
+//! Reads texts that come as bytes: parts between separators, words between spaces, and numbers. It also
+//! has `Bytes`, a list of bytes that grows.
 #![tactic(auto)]
 
 mod cursor;
@@ -11,7 +11,7 @@ mod signs;
 mod tests;
 
 pub use cursor::Parts;
-pub use cutting::{cut, is_same, next_line, word};
+pub use cutting::{cut, is_same, word};
 pub use growing::Bytes;
 pub use numbers::{number, positive_number};
 pub use signs::signed_number;

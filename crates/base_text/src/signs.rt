@@ -1,51 +1,34 @@
-ghost use Rattle.std.specs.Prelude.{◌≡◌, ℤ, pos, negsuc, ◌≤ℤ◌, MatchOption};
+ghost use Rattle.std.specs.Prelude.{◌≡◌, ℤ, ◌≤ℤ◌, MatchOption, Some, FitsSigned};
+ghost use Rattle.std.specs.Int.{w16};
 ghost use Rattle.std.specs.Fmt.{signed_decimal};
 
-use crate::numbers::number;
+use itoa::Buffer;
+use std::str;
 
 /// The number that the word spells: decimal digits with no needless leading zero, and a `-` before
-/// them where the number is below 0. `None` exactly where the word spells no number from `least`
-/// to `most`.
+/// them if the number is below 0. `None` exactly if the word spells no number from `least` to
+/// `most`.
 pub fn signed_number(word: &[u8], least: i16, most: i16) -> Option<i16>
     ensures { MatchOption result
         ((z : ℤ) → least ≤ℤ z → z ≤ℤ most → word.now ≡ signed_decimal z → ⊥)
         (λ z. (least ≤ℤ z) × (z ≤ℤ most) × (word.now ≡ signed_decimal z)) }
 {
-    let Some(value) = small_number(word) else {
-        return None;
-    };
-    let low = i32::from(least);
-    let high = i32::from(most);
-    if value < low {
+    let value = parsed_signed(word)?;
+    if value < least || most < value {
         return None;
     }
-    if high < value {
+    if Buffer::new().format(value).as_bytes() != word {
         return None;
     }
-    Some(value as i16)
+    Some(value)
 }
 
-// The same for the numbers from -32768 to 32768.
-fn small_number(word: &[u8]) -> Option<i32>
-    ensures { MatchOption result
-        ((z : ℤ) → negsuc 32767 ≤ℤ z → z ≤ℤ pos 32768 → word.now ≡ signed_decimal z → ⊥)
-        (λ z. (negsuc 32767 ≤ℤ z) × (z ≤ℤ pos 32768) × (word.now ≡ signed_decimal z)) }
+// What std reads the word as. It also reads words with a plus sign or needless zeros.
+fn parsed_signed(word: &[u8]) -> Option<i16>
+    ensures { (z : ℤ) → FitsSigned w16 z → word.now ≡ signed_decimal z → result ≡ Some z }
 {
-    match word {
-        [b'-', digits @ ..] => {
-            let Some(size) = number(digits, 32768) else {
-                return None;
-            };
-            match size {
-                0 => None,
-                _ => Some(-(size as i32)),
-            }
-        }
-        _ => {
-            let Some(size) = number(word, 32768) else {
-                return None;
-            };
-            Some(size as i32)
-        }
+    match str::from_utf8(word) {
+        Ok(text) => text.parse().ok(),
+        Err(_) => None,
     }
 }

@@ -1,4 +1,4 @@
-use crate::{Bytes, Parts, cut, next_line, number, signed_number, word};
+use crate::{Bytes, Parts, cut, number, positive_number, signed_number, word};
 use std::test::Fail;
 
 // What `cut` gives, with its parts or none.
@@ -76,6 +76,7 @@ fn numbers_stop_at_the_bound(rt: HostRuntime) {
     ];
     for (text, most, want) in cases {
         assert!(rt; number(text, most) == want);
+        assert!(rt; positive_number(text, most) == want.filter(|n| *n != 0));
     }
 }
 
@@ -113,26 +114,6 @@ fn signed_numbers_stay_in_range(rt: HostRuntime) {
 }
 
 #[test]
-fn lines_end_at_line_feeds(rt: HostRuntime) {
-    let cases: [(&[u8], Cut); 11] = [
-        (b"", None),
-        (b"one\ntwo", Some((b"one", b"two"))),
-        (b"one\r\ntwo", Some((b"one", b"two"))),
-        (b"one\r\r\n", Some((b"one\r", b""))),
-        (b"one\rtwo\n", Some((b"one\rtwo", b""))),
-        (b"one\r", Some((b"one\r", b""))),
-        (b"one", Some((b"one", b""))),
-        (b"\n\n", Some((b"", b"\n"))),
-        (b"\r\n", Some((b"", b""))),
-        (b"\n", Some((b"", b""))),
-        (b"\x00\xff\n\x00", Some((b"\x00\xff", b"\x00"))),
-    ];
-    for (text, want) in cases {
-        assert!(rt; next_line(text) == want);
-    }
-}
-
-#[test]
 fn bytes_grow_line_by_line(rt: HostRuntime) -> Result<(), Fail> {
     let mut bytes = Bytes::new(rt.alloc());
     assert!(rt; bytes.is_empty());
@@ -149,17 +130,10 @@ fn bytes_grow_line_by_line(rt: HostRuntime) -> Result<(), Fail> {
     bytes.clear();
     bytes.push_line(b"again")?;
     assert!(rt; bytes.as_slice() == b"again\n".as_slice());
-    Ok(())
-}
-
-#[test]
-fn bytes_take_over_what_is_there(rt: HostRuntime) -> Result<(), Fail> {
-    let from_vec = Bytes::from_vec(b"abc".to_vec(rt.alloc())?);
-    let from_string = Bytes::from_string(String::from_str(rt.alloc(), "abc")?);
-    let mut pushed = Bytes::new(rt.alloc());
-    pushed.push(b"abc")?;
-    assert!(rt; from_vec == from_string);
-    assert!(rt; from_string == pushed);
-    assert!(rt; pushed.into_vec().as_slice() == b"abc".as_slice());
+    let mut other = Bytes::new(rt.alloc());
+    other.push(b"again")?;
+    assert!(rt; bytes != other);
+    other.push(b"\n")?;
+    assert!(rt; bytes == other);
     Ok(())
 }

@@ -1,3 +1,4 @@
+pub mod Missions
 pub mod NeedOrder
 pub mod Parts
 pub mod Places

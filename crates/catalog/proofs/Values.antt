@@ -14,7 +14,7 @@ use Rattle.catalog.specs.declared.classes.Work.{Work}
 use Rattle.catalog.specs.declared.amounts.Amounts.{Amounts}
 use Rattle.catalog.specs.declared.amounts.TheConstants.{CAP}
 use Rattle.catalog.specs.declared.ships.Ships.{Ships}
-use Rattle.catalog.specs.declared.ships.TheConstants.{UNITS}
+use Rattle.catalog.specs.declared.ships.TheConstants.{SHIPS, UNITS}
 use Rattle.catalog.specs.declared.settings.Count.{Count}
 use Rattle.catalog.specs.declared.settings.SpeedSetting.{SpeedSetting}
 use Rattle.catalog.specs.declared.settings.Tenths.{Tenths}
@@ -71,6 +71,6 @@ amounts_is a b metal crystal deuterium =
 
 pub ships_is : (a b : Ships) → a.n ≡ b.n → a ≡ b
 ships_is a b same =
-    let at = λ (n : List ℕ). (kinds : length n ≡ 13) (within : IsTrue (list_all (λ count. nat_le count UNITS) n)) (some : IsTrue (list_any (λ count. nat_lt 0 count) n))
+    let at = λ (n : List ℕ). (kinds : length n ≡ length SHIPS) (within : IsTrue (list_all (λ count. nat_le count UNITS) n)) (some : IsTrue (list_any (λ count. nat_lt 0 count) n))
     → a ≡ record a { n = n; kinds = kinds; within = within; some = some } in
-    subst at same (λ kinds within some i. record a { kinds = ℕ_set (length a.n) 13 a.kinds kinds i; within = test_once (list_all (λ count. nat_le count UNITS) a.n) a.within within i; some = test_once (list_any (λ count. nat_lt 0 count) a.n) a.some some i }) b.kinds b.within b.some
+    subst at same (λ kinds within some i. record a { kinds = ℕ_set (length a.n) (length SHIPS) a.kinds kinds i; within = test_once (list_all (λ count. nat_le count UNITS) a.n) a.within within i; some = test_once (list_any (λ count. nat_lt 0 count) a.n) a.some some i }) b.kinds b.within b.some

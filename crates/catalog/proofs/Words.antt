@@ -1,6 +1,6 @@
 -- Each word is of one kind.
 use Rattle.std.proofs.Common.{◌≡◌, ℕ, Bool, true, false, List, [], ◌∷◌, refl, ap, ◌∙◌, sym, eqb, cond}
-use Rattle.std.specs.Prelude.{IsTrue, ◌&&◌}
+use Rattle.std.specs.Prelude.{IsTrue, ◌&&◌, Option, Some, None, MatchOption}
 use Rattle.catalog.specs.Kinds.{kind_word}
 use Rattle.catalog.specs.declared.kind.TheConstants.{KINDS}
 use Rattle.catalog.specs.declared.kind.Kind.{Kind}
@@ -77,3 +77,10 @@ no_such test word kind other first fails second passes =
     let one : kind ≡ other = word_once kind other (sym first ∙ second) in
     let both : true ≡ false = sym passes ∙ ap test (sym one) ∙ fails in
     cc
+
+-- the member of a class that a word names is of the kind that it names, if the class has one of this kind
+pub read_member : {M : Type 0} (kind_of : M → Kind) (has : Kind → Bool) (belongs : (member : M) → has (kind_of member) ≡ true) (word : List ℕ) (kind : Kind) (found : Option M)
+    → word ≡ kind_word kind → MatchOption found (has kind ≡ false) (λ member. kind_of member ≡ kind)
+    → MatchOption found ((member : M) → word ≡ kind_word (kind_of member) → ⊥) (λ member. word ≡ kind_word (kind_of member))
+read_member kind_of has belongs word kind None named none = λ member same. no_such has word kind (kind_of member) named none same (belongs member)
+read_member kind_of has belongs word kind (Some member) named of_kind = named ∙ ap kind_word (sym of_kind)

@@ -1,5 +1,6 @@
 -- The kinds, their numbers and their words. Rule: docs/RULES.md, "Kinds and costs".
-use Rattle.std.specs.Prelude.{ℕ, List, codes}
+use Rattle.std.specs.Prelude.{ℕ, List, ◌==◌, codes}
+use Rattle.std.specs.List.{position_or_len}
 use Rattle.catalog.specs.declared.kind.Kind.{Kind}
 use Rattle.catalog.specs.declared.kind.Kind.TheVariants.{MetalMine, CrystalMine, DeuteriumSynth, SolarPlant, MetalStore, CrystalStore, DeuteriumTank, Robotics, Shipyard, Lab, Nanite, Energy, Laser, Ion, Hyperspace, Plasma, Combustion, Impulse, Hyperdrive, Espionage, Computer, Weapons, Shielding, Armour, Graviton, SmallCargo, LargeCargo, LightFighter, HeavyFighter, Cruiser, Battleship, Battlecruiser, Bomber, Destroyer, Deathstar, Recycler, ColonyShip, Probe, Satellite, Launcher, LightLaser, HeavyLaser, Gauss, IonCannon, PlasmaTurret, SmallDome, LargeDome}
 
@@ -52,6 +53,10 @@ kind_number IonCannon = 65
 kind_number PlasmaTurret = 66
 kind_number SmallDome = 67
 kind_number LargeDome = 68
+
+-- the place of a kind in a list of kinds, counted from 0
+abbrev pub place_in : List Kind → Kind → ℕ
+place_in kinds kind = position_or_len (λ other. kind_number other == kind_number kind) kinds
 
 -- the word of a kind
 abbrev pub kind_word : Kind → List ℕ

@@ -24,9 +24,6 @@ impl fmt::Display for Amounts {
     ghost output = { λ amounts. Some (amounts_text amounts) };
 
     fn fmt<W: fmt::Write>(&self, f: &mut fmt::Formatter<W>) -> fmt::Result {
-        let metal = self.m;
-        let crystal = self.c;
-        let deuterium = self.d;
-        write!(f, "{metal} {crystal} {deuterium}")
+        write!(f, "{} {} {}", self.m, self.c, self.d)
     }
 }

@@ -4,6 +4,50 @@ ghost use Rattle.catalog.specs.Classes.{is_building, is_technology, is_unit, is_
 use crate::kind::Kind;
 use std::fmt;
 
+/// A class of kinds, as the buildings. Its members are the kinds that belong to it.
+pub trait Class: Sized {
+    ghost use Rattle.std.specs.Prelude.{◌≡◌, Bool, false, true, MatchOption};
+    ghost use Rattle.catalog.specs.Kinds.{kind_word};
+    ghost use Rattle.catalog.specs.declared.kind.Kind.{Kind};
+
+    // whether a kind belongs to the class
+    ghost has: { Kind → Bool };
+
+    // the kind of a member
+    ghost kind_of: { Self → Kind };
+
+    /// The member of this kind. `None` exactly if the kind doesn't belong to the class.
+    fn of(kind: Kind) -> Option<Self>
+        ensures { MatchOption result (has kind ≡ false) (λ member. kind_of member ≡ kind) };
+
+    /// The member that a word names. `None` exactly if it names none.
+    final fn read(word: &[u8]) -> Option<Self>
+        ensures { MatchOption result
+            ((member : Self) → word.now ≡ kind_word (kind_of member) → ⊥)
+            (λ member. word.now ≡ kind_word (kind_of member)) }
+    {
+        Self::of(Kind::read(word)?)
+    }
+
+    // each member belongs to the class
+    ghost belongs: { (member : Self) → has (kind_of member) ≡ true };
+}
+
+/// The kinds of buildings, by number.
+pub const BUILDINGS: [Kind; 11] = [
+    Kind::MetalMine,
+    Kind::CrystalMine,
+    Kind::DeuteriumSynth,
+    Kind::SolarPlant,
+    Kind::MetalStore,
+    Kind::CrystalStore,
+    Kind::DeuteriumTank,
+    Kind::Robotics,
+    Kind::Shipyard,
+    Kind::Lab,
+    Kind::Nanite,
+];
+
 /// A kind of building. Its text is the word of the kind.
 #[derive(Clone, Copy, Debug, PartialEq, Eq, PartialOrd, Ord)]
 pub struct Building {
@@ -11,21 +55,18 @@ pub struct Building {
     pub ghost class: { IsTrue (is_building kind) },
 }
 
-impl Building {
-    ghost use Rattle.std.specs.Prelude.{◌≡◌, MatchOption};
-    ghost use Rattle.catalog.specs.Kinds.{kind_word};
-    ghost use Rattle.catalog.specs.declared.classes.Building.{Building};
+impl Class for Building {
+    ghost has = { is_building };
 
-    /// The building that a word names. `None` exactly where it names none.
-    #[tactic(auto, using(crate::proofs::Words::no_such))]
-    pub fn read(word: &[u8]) -> Option<Building>
-        ensures { MatchOption result
-            ((building : Building) → word.now ≡ kind_word building.kind → ⊥)
-            (λ building. word.now ≡ kind_word building.kind) }
-    {
-        match Kind::read(word) {
-            Some(kind) if kind.is_building() => Some(Building { kind }),
-            _ => None,
+    ghost kind_of = { λ building. building.kind };
+
+    ghost belongs = { λ building. building.class };
+
+    fn of(kind: Kind) -> Option<Building> {
+        if kind.is_building() {
+            Some(Building { kind })
+        } else {
+            None
         }
     }
 }
@@ -37,10 +78,27 @@ impl fmt::Display for Building {
     ghost output = { λ building. Some (kind_word building.kind) };
 
     fn fmt<W: fmt::Write>(&self, f: &mut fmt::Formatter<W>) -> fmt::Result {
-        let kind = self.kind;
-        write!(f, "{kind}")
+        write!(f, "{}", self.kind)
     }
 }
+
+/// The kinds of technologies, by number.
+pub const TECHNOLOGIES: [Kind; 14] = [
+    Kind::Energy,
+    Kind::Laser,
+    Kind::Ion,
+    Kind::Hyperspace,
+    Kind::Plasma,
+    Kind::Combustion,
+    Kind::Impulse,
+    Kind::Hyperdrive,
+    Kind::Espionage,
+    Kind::Computer,
+    Kind::Weapons,
+    Kind::Shielding,
+    Kind::Armour,
+    Kind::Graviton,
+];
 
 /// A kind of technology. Its text is the word of the kind.
 #[derive(Clone, Copy, Debug, PartialEq, Eq, PartialOrd, Ord)]
@@ -49,21 +107,18 @@ pub struct Technology {
     pub ghost class: { IsTrue (is_technology kind) },
 }
 
-impl Technology {
-    ghost use Rattle.std.specs.Prelude.{◌≡◌, MatchOption};
-    ghost use Rattle.catalog.specs.Kinds.{kind_word};
-    ghost use Rattle.catalog.specs.declared.classes.Technology.{Technology};
+impl Class for Technology {
+    ghost has = { is_technology };
 
-    /// The technology that a word names. `None` exactly where it names none.
-    #[tactic(auto, using(crate::proofs::Words::no_such))]
-    pub fn read(word: &[u8]) -> Option<Technology>
-        ensures { MatchOption result
-            ((technology : Technology) → word.now ≡ kind_word technology.kind → ⊥)
-            (λ technology. word.now ≡ kind_word technology.kind) }
-    {
-        match Kind::read(word) {
-            Some(kind) if kind.is_technology() => Some(Technology { kind }),
-            _ => None,
+    ghost kind_of = { λ technology. technology.kind };
+
+    ghost belongs = { λ technology. technology.class };
+
+    fn of(kind: Kind) -> Option<Technology> {
+        if kind.is_technology() {
+            Some(Technology { kind })
+        } else {
+            None
         }
     }
 }
@@ -75,8 +130,7 @@ impl fmt::Display for Technology {
     ghost output = { λ technology. Some (kind_word technology.kind) };
 
     fn fmt<W: fmt::Write>(&self, f: &mut fmt::Formatter<W>) -> fmt::Result {
-        let kind = self.kind;
-        write!(f, "{kind}")
+        write!(f, "{}", self.kind)
     }
 }
 
@@ -113,21 +167,18 @@ pub struct Unit {
     pub ghost class: { IsTrue (is_unit kind) },
 }
 
-impl Unit {
-    ghost use Rattle.std.specs.Prelude.{◌≡◌, MatchOption};
-    ghost use Rattle.catalog.specs.Kinds.{kind_word};
-    ghost use Rattle.catalog.specs.declared.classes.Unit.{Unit};
+impl Class for Unit {
+    ghost has = { is_unit };
 
-    /// The unit that a word names. `None` exactly where it names none.
-    #[tactic(auto, using(crate::proofs::Words::no_such))]
-    pub fn read(word: &[u8]) -> Option<Unit>
-        ensures { MatchOption result
-            ((unit : Unit) → word.now ≡ kind_word unit.kind → ⊥)
-            (λ unit. word.now ≡ kind_word unit.kind) }
-    {
-        match Kind::read(word) {
-            Some(kind) if kind.is_unit() => Some(Unit { kind }),
-            _ => None,
+    ghost kind_of = { λ unit. unit.kind };
+
+    ghost belongs = { λ unit. unit.class };
+
+    fn of(kind: Kind) -> Option<Unit> {
+        if kind.is_unit() {
+            Some(Unit { kind })
+        } else {
+            None
         }
     }
 }
@@ -139,10 +190,18 @@ impl fmt::Display for Unit {
     ghost output = { λ unit. Some (kind_word unit.kind) };
 
     fn fmt<W: fmt::Write>(&self, f: &mut fmt::Formatter<W>) -> fmt::Result {
-        let kind = self.kind;
-        write!(f, "{kind}")
+        write!(f, "{}", self.kind)
     }
 }
+
+/// The kinds of works, by number.
+pub const WORKS: [Kind; 5] = [
+    Kind::MetalMine,
+    Kind::CrystalMine,
+    Kind::DeuteriumSynth,
+    Kind::SolarPlant,
+    Kind::Satellite,
+];
 
 /// A kind whose work can be set: the three mines, the solar plant or the satellite. Its text is the word of the
 /// kind.
@@ -152,21 +211,18 @@ pub struct Work {
     pub ghost class: { IsTrue (is_work kind) },
 }
 
-impl Work {
-    ghost use Rattle.std.specs.Prelude.{◌≡◌, MatchOption};
-    ghost use Rattle.catalog.specs.Kinds.{kind_word};
-    ghost use Rattle.catalog.specs.declared.classes.Work.{Work};
+impl Class for Work {
+    ghost has = { is_work };
 
-    /// The work that a word names. `None` exactly where it names none.
-    #[tactic(auto, using(crate::proofs::Words::no_such))]
-    pub fn read(word: &[u8]) -> Option<Work>
-        ensures { MatchOption result
-            ((work : Work) → word.now ≡ kind_word work.kind → ⊥)
-            (λ work. word.now ≡ kind_word work.kind) }
-    {
-        match Kind::read(word) {
-            Some(kind) if kind.is_work() => Some(Work { kind }),
-            _ => None,
+    ghost kind_of = { λ work. work.kind };
+
+    ghost belongs = { λ work. work.class };
+
+    fn of(kind: Kind) -> Option<Work> {
+        if kind.is_work() {
+            Some(Work { kind })
+        } else {
+            None
         }
     }
 }
@@ -178,7 +234,6 @@ impl fmt::Display for Work {
     ghost output = { λ work. Some (kind_word work.kind) };
 
     fn fmt<W: fmt::Write>(&self, f: &mut fmt::Formatter<W>) -> fmt::Result {
-        let kind = self.kind;
-        write!(f, "{kind}")
+        write!(f, "{}", self.kind)
     }
 }

@@ -112,14 +112,13 @@ impl fmt::Display for Kind {
     ghost output = { λ kind. Some (kind_word kind) };
 
     fn fmt<W: fmt::Write>(&self, f: &mut fmt::Formatter<W>) -> fmt::Result {
-        let word = self.word();
-        write!(f, "{word}")
+        write!(f, "{}", self.word())
     }
 }
 
 impl Kind {
     ghost use Rattle.std.specs.Prelude.{◌≡◌, MatchOption};
-    ghost use Rattle.catalog.specs.Classes.{is_building, is_technology, is_ship, is_unit, is_work};
+    ghost use Rattle.catalog.specs.Classes.{is_among, is_building, is_technology, is_ship, is_unit, is_work};
     ghost use Rattle.catalog.specs.Kinds.{kind_number, kind_word};
     ghost use Rattle.catalog.specs.declared.kind.Kind.{Kind};
 
@@ -190,38 +189,45 @@ impl Kind {
     pub fn is_building(self) -> bool
         ensures { result ≡ is_building self }
     {
-        self.number() <= 11
+        self.is_among(Kind::MetalMine, Kind::Nanite)
     }
 
     /// Whether it is a technology.
     pub fn is_technology(self) -> bool
         ensures { result ≡ is_technology self }
     {
-        21 <= self.number() && self.number() <= 34
+        self.is_among(Kind::Energy, Kind::Graviton)
     }
 
     /// Whether it is a ship that flies.
     pub fn is_ship(self) -> bool
         ensures { result ≡ is_ship self }
     {
-        41 <= self.number() && self.number() <= 53
+        self.is_among(Kind::SmallCargo, Kind::Probe)
     }
 
     /// Whether a yard builds it: a ship, the satellite or a defence.
     pub fn is_unit(self) -> bool
         ensures { result ≡ is_unit self }
     {
-        41 <= self.number()
+        self.is_among(Kind::SmallCargo, Kind::LargeDome)
     }
 
     /// Whether its work can be set: a mine, the solar plant or the satellite.
     pub fn is_work(self) -> bool
         ensures { result ≡ is_work self }
     {
-        self.number() <= 4 || self.number() == 54
+        self.is_among(Kind::MetalMine, Kind::SolarPlant) || self == Kind::Satellite
     }
 
-    /// The kind that a word names. `None` exactly where it names none.
+    /// Whether it is one of the kinds from `first` to `last`, by number.
+    fn is_among(self, first: Kind, last: Kind) -> bool
+        ensures { result ≡ is_among first last self }
+    {
+        (first.number()..=last.number()).contains(&self.number())
+    }
+
+    /// The kind that a word names. `None` exactly if it names none.
     #[tactic(auto, using(crate::proofs::Places::read_whole))]
     pub fn read(word: &[u8]) -> Option<Kind>
         ensures { MatchOption result ((kind : Kind) → word.now ≡ kind_word kind → ⊥) (λ kind. word.now ≡ kind_word kind) }
@@ -236,10 +242,8 @@ fn named(kinds: &[Kind], word: &[u8]) -> Option<Kind>
         (All (λ kind. word.now ≡ kind_word kind → ⊥) kinds.now)
         (λ kind. word.now ≡ kind_word kind) }
 {
-    'kinds: for kind in kinds {
-        if kind.word().as_bytes() == word {
-            return Some(*kind);
-        }
-    }
-    None
+    kinds
+        .iter()
+        .find(|kind| kind.word().as_bytes() == word)
+        .copied()
 }

@@ -18,14 +18,16 @@ mod table_laws;
 mod techs;
 
 pub use amounts::{Amounts, CAP};
-pub use classes::{Building, Technology, UNIT_KINDS, Unit, Work};
+pub use classes::{
+    BUILDINGS, Building, Class, TECHNOLOGIES, Technology, UNIT_KINDS, Unit, WORKS, Work,
+};
 pub use engine::{Drive, Engine};
 pub use growth::Growth;
 pub use kind::{KINDS, Kind};
 pub use mission::Mission;
 pub use need::{GRAVITON_ENERGY, Need};
 pub use rapid_fire::rapid;
-pub use settings::{Count, SpeedSetting, Tenths};
+pub use settings::{Count, SpeedSetting, TOP_SPEED, Tenths};
 pub use ships::{SHIPS, Ships, UNITS};
 pub use storage::storage_limit;
 pub use table_laws::{

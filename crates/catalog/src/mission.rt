@@ -1,3 +1,6 @@
+ghost use Rattle.std.specs.Prelude.{◌≡◌, All, MatchOption};
+ghost use Rattle.catalog.specs.Missions.{mission_word};
+
 use std::fmt;
 
 /// What a fleet is to do at its target. Missions are numbered from 1.
@@ -8,6 +11,14 @@ pub enum Mission {
     Harvest = 3,
     Attack = 4,
 }
+
+/// All missions, by number.
+const MISSIONS: [Mission; 4] = [
+    Mission::Transport,
+    Mission::Deploy,
+    Mission::Harvest,
+    Mission::Attack,
+];
 
 impl Mission {
     ghost use Rattle.std.specs.Prelude.{◌≡◌, MatchOption};
@@ -33,24 +44,27 @@ impl Mission {
         }
     }
 
-    /// The mission of a word. `None` exactly where it is of none.
+    /// The mission of a word. `None` exactly if it is of none.
+    #[tactic(auto, using(crate::proofs::Missions::read_listed))]
     pub fn read(word: &[u8]) -> Option<Mission>
         ensures { MatchOption result
             ((mission : Mission) → word.now ≡ mission_word mission → ⊥)
             (λ mission. word.now ≡ mission_word mission) }
     {
-        if word == b"transport".as_slice() {
-            Some(Mission::Transport)
-        } else if word == b"deploy".as_slice() {
-            Some(Mission::Deploy)
-        } else if word == b"harvest".as_slice() {
-            Some(Mission::Harvest)
-        } else if word == b"attack".as_slice() {
-            Some(Mission::Attack)
-        } else {
-            None
-        }
+        named(&MISSIONS, word)
     }
+}
+
+/// The first of these missions that a word names.
+fn named(missions: &[Mission], word: &[u8]) -> Option<Mission>
+    ensures { MatchOption result
+        (All (λ mission. word.now ≡ mission_word mission → ⊥) missions.now)
+        (λ mission. word.now ≡ mission_word mission) }
+{
+    missions
+        .iter()
+        .find(|mission| mission.word().as_bytes() == word)
+        .copied()
 }
 
 impl fmt::Display for Mission {
@@ -60,7 +74,6 @@ impl fmt::Display for Mission {
     ghost output = { λ mission. Some (mission_word mission) };
 
     fn fmt<W: fmt::Write>(&self, f: &mut fmt::Formatter<W>) -> fmt::Result {
-        let word = self.word();
-        write!(f, "{word}")
+        write!(f, "{}", self.word())
     }
 }

@@ -3,6 +3,9 @@ ghost use Rattle.catalog.specs.declared.ships.TheConstants.{UNITS};
 
 use std::fmt;
 
+/// The highest speed of a universe. The lowest is 1.
+pub const TOP_SPEED: u32 = 100;
+
 /// The speed setting of a fleet, 1 to 10: tenths of the full speed. Its text is the number.
 #[derive(Clone, Copy, Debug, PartialEq, Eq)]
 pub struct SpeedSetting {
@@ -33,8 +36,7 @@ impl fmt::Display for SpeedSetting {
     ghost output = { λ setting. Some (decimal setting.p) };
 
     fn fmt<W: fmt::Write>(&self, f: &mut fmt::Formatter<W>) -> fmt::Result {
-        let number = self.p;
-        write!(f, "{number}")
+        write!(f, "{}", self.p)
     }
 }
 
@@ -45,8 +47,7 @@ impl fmt::Display for Tenths {
     ghost output = { λ tenths. Some (decimal tenths.n) };
 
     fn fmt<W: fmt::Write>(&self, f: &mut fmt::Formatter<W>) -> fmt::Result {
-        let number = self.n;
-        write!(f, "{number}")
+        write!(f, "{}", self.n)
     }
 }
 
@@ -57,7 +58,6 @@ impl fmt::Display for Count {
     ghost output = { λ count. Some (decimal count.n) };
 
     fn fmt<W: fmt::Write>(&self, f: &mut fmt::Formatter<W>) -> fmt::Result {
-        let number = self.n;
-        write!(f, "{number}")
+        write!(f, "{}", self.n)
     }
 }

@@ -1,6 +1,6 @@
 ghost use Rattle.std.specs.Prelude.{◌≡◌, IsTrue, length, nat_le, nat_lt};
 ghost use Rattle.std.specs.List.{list_all, list_any};
-ghost use Rattle.catalog.specs.declared.ships.TheConstants.{UNITS};
+ghost use Rattle.catalog.specs.declared.ships.TheConstants.{SHIPS, UNITS};
 ghost use Rattle.std.specs.Prelude.{◌∷◌, if◌then◌else◌};
 ghost use Rattle.std.specs.Fmt.{WritesOnOk};
 ghost use Rattle.catalog.specs.Texts.{ship_part};
@@ -33,7 +33,7 @@ pub const SHIPS: [Kind; 13] = [
 #[derive(Clone, Copy, Debug, PartialEq, Eq)]
 pub struct Ships {
     pub n: [u32; 13],
-    pub ghost kinds: { length n ≡ 13 },
+    pub ghost kinds: { length n ≡ length SHIPS },
     pub ghost within: { IsTrue (list_all (λ count. nat_le count UNITS) n) },
     pub ghost some: { IsTrue (list_any (λ count. nat_lt 0 count) n) },
 }
@@ -57,7 +57,7 @@ impl fmt::Display for Ships {
     }
 }
 
-/// Writes one kind with its count, and a comma before it where it isn't the first.
+/// Writes one kind with its count, and a comma before it if it isn't the first.
 fn write_ship<W: fmt::Write>(
     f: &mut fmt::Formatter<W>,
     is_first: bool,

@@ -1,5 +1,8 @@
-ghost use Rattle.std.specs.Prelude.{◌≡◌, ◌≤◌, Some, slice_get};
-ghost use Rattle.catalog.specs.Storage.{storage_limits};
+ghost use Rattle.std.specs.Prelude.{◌≡◌, ◌≤◌};
+ghost use Rattle.catalog.specs.Levels.{level_cap_of};
+ghost use Rattle.catalog.specs.Storage.{storage_limit};
+ghost use Rattle.catalog.specs.declared.amounts.TheConstants.{CAP};
+ghost use Rattle.catalog.specs.declared.kind.Kind.TheVariants.{MetalStore};
 
 /// The storage limits by the level of the store, in units.
 const LIMITS: [u64; 17] = [
@@ -24,8 +27,9 @@ const LIMITS: [u64; 17] = [
 
 /// Up to how many units of a resource production fills a planet's stock, by the level of its store, 0 to 16.
 pub fn storage_limit(level: u8) -> u64
-    requires { level ≤ 16 }
-    ensures { slice_get storage_limits level ≡ Some result }
+    requires { level ≤ level_cap_of MetalStore }
+    ensures value { result ≡ storage_limit level }
+    ensures within { result ≤ CAP }
 {
-    LIMITS[level as usize]
+    LIMITS[usize::from(level)]
 }

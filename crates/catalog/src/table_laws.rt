@@ -1,7 +1,7 @@
-ghost use Rattle.std.specs.Prelude.{◌≡◌, ℕ, ◌<◌, ◌≤◌, ◌⊎◌, ◌↔◌, ◌||◌, All, IfSome, IsSome, IsTrue, filter, map, ◌++◌};
+ghost use Rattle.std.specs.Prelude.{◌≡◌, ℕ, ◌+◌, ◌<◌, ◌≤◌, ◌⊎◌, ◌↔◌, ◌||◌, All, IfSome, IsSome, IsTrue, filter, length, map, ◌++◌};
 ghost use Rattle.std.specs.List.{range_with_len};
 ghost use Rattle.std.specs.List.Sorted.{IsStrictlyIncreasing};
-ghost use Rattle.catalog.specs.Classes.{is_building, is_ship, is_technology, is_unit};
+ghost use Rattle.catalog.specs.Classes.{is_building, is_ship, is_technology, is_unit, is_work};
 ghost use Rattle.catalog.specs.Combat.{attack_of, shield_of};
 ghost use Rattle.catalog.specs.Costs.{cost_of};
 ghost use Rattle.catalog.specs.Flight.{cargo_of, engine_of};
@@ -11,19 +11,22 @@ ghost use Rattle.catalog.specs.Needs.{needs_of};
 ghost use Rattle.catalog.specs.RapidFire.{rapid_of};
 ghost use Rattle.catalog.specs.Storage.{storage_limits};
 ghost use Rattle.catalog.specs.declared.amounts.TheConstants.{CAP};
-ghost use Rattle.catalog.specs.declared.classes.TheConstants.{UNIT_KINDS};
+ghost use Rattle.catalog.specs.declared.classes.TheConstants.{BUILDINGS, TECHNOLOGIES, UNIT_KINDS, WORKS};
 ghost use Rattle.catalog.specs.declared.kind.Kind.{Kind};
+ghost use Rattle.catalog.specs.declared.kind.Kind.TheVariants.{CrystalStore, DeuteriumTank, MetalStore};
 ghost use Rattle.catalog.specs.declared.kind.TheConstants.{KINDS};
 ghost use Rattle.catalog.specs.declared.ships.TheConstants.{SHIPS};
 
 /// The kinds are listed by number: 11 buildings from 1 on, 14 technologies from 21 on, 14 ships from 41 on and 8
-/// defences from 61 on. The ships that fly and the units are listed in the same order. It does nothing: the laws are
-/// its contract.
+/// defences from 61 on. Each class is listed in the same order. It does nothing: the laws are its contract.
 pub fn kinds_are_listed()
     ensures numbers { map kind_number KINDS
         ≡ range_with_len 1 11 ++ range_with_len 21 14 ++ range_with_len 41 14 ++ range_with_len 61 8 }
+    ensures buildings { BUILDINGS ≡ filter is_building KINDS }
+    ensures technologies { TECHNOLOGIES ≡ filter is_technology KINDS }
     ensures ships { SHIPS ≡ filter is_ship KINDS }
     ensures units { UNIT_KINDS ≡ filter is_unit KINDS }
+    ensures works { WORKS ≡ filter is_work KINDS }
 {}
 
 /// No first cost is above the cap. It does nothing: the laws are its contract.
@@ -79,8 +82,12 @@ pub fn ships_fly()
     ensures cargo { (kind : Kind) → 0 < cargo_of kind → IsTrue (is_ship kind) }
 {}
 
-/// The limits of a store rise with each level, and none is above the cap. It does nothing: the laws are its contract.
+/// There is a storage limit for each level that a store can have. The limits rise with the level, and none is above the
+/// cap. It does nothing: the laws are its contract.
 pub fn stores_grow()
+    ensures metal { length storage_limits ≡ level_cap_of MetalStore + 1 }
+    ensures crystal { length storage_limits ≡ level_cap_of CrystalStore + 1 }
+    ensures deuterium { length storage_limits ≡ level_cap_of DeuteriumTank + 1 }
     ensures rising { IsStrictlyIncreasing storage_limits }
     ensures capped { All (λ limit. limit ≤ CAP) storage_limits }
 {}

@@ -2,6 +2,7 @@ ghost use Rattle.std.specs.Prelude.{◌≡◌};
 ghost use Rattle.catalog.specs.Technologies.{level_in};
 
 use crate::classes::Technology;
+use crate::kind::Kind;
 
 /// The levels of an account's technologies, in the order of their numbers: energy is the first, graviton the last.
 #[derive(Clone, Copy, Debug, PartialEq, Eq)]
@@ -14,6 +15,6 @@ impl Techs {
     pub fn level(&self, technology: Technology) -> u8
         ensures { result ≡ level_in self.now.n technology.kind }
     {
-        self.n[usize::from(technology.kind.number() - 21)]
+        self.n[usize::from(technology.kind.number() - Kind::Energy.number())]
     }
 }

@@ -1,72 +1,8 @@
 use crate::{
-    Amounts, Building, Count, KINDS, Kind, Mission, SHIPS, Ships, SpeedSetting, Technology, Techs,
-    Tenths, Unit, Work,
+    Amounts, Building, CAP, Class, Count, KINDS, Kind, Mission, Ships, SpeedSetting, Technology,
+    Techs, Tenths, Unit, Work,
 };
 use std::test::Fail;
-
-// The words of the kinds with their numbers, by number.
-const LISTING: [(&str, u8); 47] = [
-    ("metalmine", 1),
-    ("crystalmine", 2),
-    ("deuteriumsynth", 3),
-    ("solarplant", 4),
-    ("metalstore", 5),
-    ("crystalstore", 6),
-    ("deuteriumtank", 7),
-    ("robotics", 8),
-    ("shipyard", 9),
-    ("lab", 10),
-    ("nanite", 11),
-    ("energy", 21),
-    ("laser", 22),
-    ("ion", 23),
-    ("hyperspace", 24),
-    ("plasma", 25),
-    ("combustion", 26),
-    ("impulse", 27),
-    ("hyperdrive", 28),
-    ("espionage", 29),
-    ("computer", 30),
-    ("weapons", 31),
-    ("shielding", 32),
-    ("armour", 33),
-    ("graviton", 34),
-    ("smallcargo", 41),
-    ("largecargo", 42),
-    ("lightfighter", 43),
-    ("heavyfighter", 44),
-    ("cruiser", 45),
-    ("battleship", 46),
-    ("battlecruiser", 47),
-    ("bomber", 48),
-    ("destroyer", 49),
-    ("deathstar", 50),
-    ("recycler", 51),
-    ("colonyship", 52),
-    ("probe", 53),
-    ("satellite", 54),
-    ("launcher", 61),
-    ("lightlaser", 62),
-    ("heavylaser", 63),
-    ("gauss", 64),
-    ("ioncannon", 65),
-    ("plasmaturret", 66),
-    ("smalldome", 67),
-    ("largedome", 68),
-];
-
-#[test]
-fn each_word_is_read_as_the_kind_of_its_number(rt: HostRuntime) -> Result<(), Fail> {
-    for (i, (word, number)) in LISTING.iter().enumerate() {
-        let kind = Kind::read(word.as_bytes()).ok_or("no kind")?;
-        assert_eq!(rt; kind.number(), *number, "{word}");
-        assert_eq!(rt; kind.word(), *word, "{word}");
-        assert_eq!(rt; KINDS[i], kind, "{word}");
-        let text = format!(in rt.alloc(); "{kind}")?;
-        assert_eq!(rt; text.as_str(), *word);
-    }
-    Ok(())
-}
 
 #[test]
 fn other_words_name_no_kind(rt: HostRuntime) {
@@ -94,23 +30,20 @@ fn other_words_name_no_kind(rt: HostRuntime) {
 
 #[test]
 fn each_class_reads_the_words_of_its_own_kinds(rt: HostRuntime) {
-    for (word, number) in LISTING {
-        let building = number <= 11;
-        let technology = 21 <= number && number <= 34;
-        let unit = 41 <= number && number <= 54 || 61 <= number && number <= 68;
-        let work = number <= 4 || number == 54;
-        assert_eq!(rt;
-            Building::read(word.as_bytes()).is_some(),
-            building,
-            "{word}"
-        );
-        assert_eq!(rt;
-            Technology::read(word.as_bytes()).is_some(),
-            technology,
-            "{word}"
-        );
-        assert_eq!(rt; Unit::read(word.as_bytes()).is_some(), unit, "{word}");
-        assert_eq!(rt; Work::read(word.as_bytes()).is_some(), work, "{word}");
+    for kind in KINDS {
+        let word = kind.word();
+        let (building, technology, unit, work) = match kind.number() {
+            1..=4 => (true, false, false, true),
+            5..=11 => (true, false, false, false),
+            21..=34 => (false, true, false, false),
+            54 => (false, false, true, true),
+            _ => (false, false, true, false),
+        };
+        let bytes = word.as_bytes();
+        assert_eq!(rt; Building::read(bytes).is_some(), building, "{word}");
+        assert_eq!(rt; Technology::read(bytes).is_some(), technology, "{word}");
+        assert_eq!(rt; Unit::read(bytes).is_some(), unit, "{word}");
+        assert_eq!(rt; Work::read(bytes).is_some(), work, "{word}");
     }
 }
 
@@ -133,20 +66,6 @@ fn members_of_a_class_are_written_as_their_kinds(rt: HostRuntime) -> Result<(), 
     let text = format!(in rt.alloc(); "{building} {technology} {unit} {work}")?;
     assert_eq!(rt; text.as_str(), "nanite graviton largedome satellite");
     Ok(())
-}
-
-#[test]
-fn ships_that_fly_are_the_kinds_from_smallcargo_to_probe(rt: HostRuntime) {
-    for (word, number) in LISTING {
-        let flies = 41 <= number && number <= 53;
-        let mut is_listed = false;
-        for kind in SHIPS {
-            if kind.number() == number {
-                is_listed = true;
-            }
-        }
-        assert_eq!(rt; is_listed, flies, "{word}");
-    }
 }
 
 #[test]
@@ -235,7 +154,7 @@ fn settings_are_written_as_numbers(rt: HostRuntime) -> Result<(), Fail> {
 #[test]
 fn amounts_are_written_as_metal_crystal_deuterium(rt: HostRuntime) -> Result<(), Fail> {
     let amounts = Amounts {
-        m: 4_000_000_000_000,
+        m: CAP,
         c: 0,
         d: 17,
     };
@@ -245,7 +164,9 @@ fn amounts_are_written_as_metal_crystal_deuterium(rt: HostRuntime) -> Result<(),
 }
 
 #[test]
-fn the_first_level_is_that_of_energy_and_the_last_that_of_graviton(rt: HostRuntime) {
+fn the_first_level_is_that_of_energy_and_the_last_that_of_graviton(
+    rt: HostRuntime,
+) -> Result<(), Fail> {
     let techs = Techs {
         n: [1, 2, 3, 4, 5, 6, 7, 8, 9, 10, 11, 12, 13, 14],
     };
@@ -255,10 +176,8 @@ fn the_first_level_is_that_of_energy_and_the_last_that_of_graviton(rt: HostRunti
         (Kind::Armour, 13),
         (Kind::Graviton, 14),
     ] {
-        if kind.is_technology() {
-            assert_eq!(rt; techs.level(Technology { kind }), want);
-        } else {
-            assert!(rt; false);
-        }
+        let technology = Technology::of(kind).ok_or("no technology")?;
+        assert_eq!(rt; techs.level(technology), want);
     }
+    Ok(())
 }

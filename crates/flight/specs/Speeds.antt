@@ -49,7 +49,7 @@ least (x ∷ xs) = fold min x xs
 abbrev pub fleet_speed : List ℕ → List ℕ → ℕ
 fleet_speed levels counts = least (map (ship_speed levels) (present SHIPS counts))
 
--- the lower of two speeds, where there is a first one
+-- the lower of two speeds, if there is a first one
 abbrev pub lower : Option ℕ → ℕ → Option ℕ
 lower None speed = Some speed
 lower (Some slowest) speed = Some (min slowest speed)

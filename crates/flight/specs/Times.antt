@@ -1,10 +1,9 @@
 -- How long a flight takes. Rule: docs/RULES.md, "Distances, speeds and flights".
 use Rattle.std.specs.Prelude.{ℕ, ◌+◌, ◌*◌, ◌/◌}
 use Rattle.base_num.specs.Division.{IsCeiling, IsFloor, ceiling}
-use Rattle.base_num.specs.Root.{IsRoot}
-use Rattle.flight.specs.Roots.{root}
+use Rattle.base_num.specs.Root.{IsRoot, root}
 
--- The time hangs on the root of a quotient: this is what is divided, over a distance d,
+-- The time comes from the root of a quotient. This is what is divided, over a distance d,
 abbrev pub way : ℕ → ℕ
 way d = 35000 * 35000 * 10 * d
 

@@ -32,7 +32,7 @@ fn slowest(ships: &Ships, t: &Techs) -> Option<u64>
     slowest
 }
 
-/// The lower of two speeds, where there is a first one.
+/// The lower of two speeds, if there is a first one.
 fn lower(slowest: Option<u64>, speed: u64) -> Option<u64>
     ensures { result ≡ lower slowest speed }
 {

@@ -1,6 +1,6 @@
 ghost use Rattle.std.specs.Prelude.{◌≡◌, ◌+◌, ◌*◌, ◌<◌, ◌≤◌, ◌^◌};
-ghost use Rattle.base_num.specs.Division.{IsFloor};
-ghost use Rattle.prices.specs.Durations.{IsWithinCaps, hourly_work, seconds_of};
+ghost use Rattle.catalog.specs.declared.settings.TheConstants.{TOP_SPEED};
+ghost use Rattle.prices.specs.Durations.{IsDuration, IsWithinCaps, hourly_work, seconds_of};
 
 use catalog::Amounts;
 
@@ -16,15 +16,13 @@ pub enum Helpers {
 }
 
 /// The seconds that a building, a research or one unit takes, at least 1, from its cost `c` in units and the speed of
-/// the universe, 1 to 100. Deuterium takes no time.
+/// the universe, 1 to `TOP_SPEED`. Deuterium takes no time.
 pub fn seconds(c: Amounts, helpers: Helpers, speed: u32) -> u64
     requires helpers { IsWithinCaps helpers }
     requires speed_from { 1 ≤ speed }
-    requires speed_to { speed ≤ 100 }
+    requires speed_to { speed ≤ TOP_SPEED }
     ensures value { result ≡ seconds_of c.m c.c helpers speed }
-    ensures floored { hourly_work helpers speed ≤ 3600 * (c.m + c.c)
-        → IsFloor (3600 * (c.m + c.c)) (hourly_work helpers speed) result }
-    ensures least { 3600 * (c.m + c.c) < hourly_work helpers speed → result ≡ 1 }
+    ensures bounds { IsDuration c.m c.c helpers speed result }
 {
     let work = 3600 * (c.m + c.c);
     (work / hourly(helpers, speed)).max(1)
@@ -34,7 +32,7 @@ pub fn seconds(c: Amounts, helpers: Helpers, speed: u32) -> u64
 fn hourly(helpers: Helpers, speed: u32) -> u64
     requires helpers { IsWithinCaps helpers }
     requires speed_from { 1 ≤ speed }
-    requires speed_to { speed ≤ 100 }
+    requires speed_to { speed ≤ TOP_SPEED }
     ensures value { result ≡ hourly_work helpers speed }
     ensures some { 1 ≤ result }
 {

@@ -3,9 +3,11 @@
 #![tactic(auto)]
 
 mod duration;
+mod laws;
 mod price;
 
 pub use duration::{Helpers, seconds};
+pub use laws::prices_are_capped;
 pub use price::cost;
 
 #[cfg(test)]

@@ -1,12 +1,13 @@
 -- A stock after many seconds, in closed form.
 use Rattle.std.proofs.Common.{◌≡◌, ℕ, zero, suc, ◌+◌, ◌*◌, ◌<◌, ◌≤◌, min, arith, refl, ap}
 use Rattle.std.proofs.lemmas.Bool.Decides.{nat_tests}
+use Rattle.catalog.specs.Storage.{storage_limit}
 use Rattle.rates.specs.Stock.{gain_once, stocks_second}
-use Rattle.rates.specs.declared.stock.TheConstants.{GRAINS, STORAGE}
+use Rattle.rates.specs.declared.stock.TheConstants.{GRAINS}
 use Rattle.rates.specs.declared.resources.Resources.{Resources}
 use Rattle.rates.specs.Times.{times}
 
--- one second more, where a stock is cut at its limit
+-- one second more, with the stock cut at its limit
 one_more : (limit hourly now next : ℕ) → next ≡ now + hourly → gain_once limit hourly (min now limit) ≡ min next limit
 one_more limit hourly now next more = grind (arith, nat_tests)
 
@@ -29,9 +30,9 @@ pub ruleset gains = (gain_full, gain_below)
 pub times_stocks : (speed seconds : ℕ) (stock : Resources)
     → times seconds (stocks_second speed) stock
     ≡ record {
-      metal = times seconds (gain_once (GRAINS * STORAGE) (20 * speed)) stock.metal;
-      crystal = times seconds (gain_once (GRAINS * STORAGE) (10 * speed)) stock.crystal;
-      deuterium = times seconds (gain_once (GRAINS * STORAGE) 0) stock.deuterium;
+      metal = times seconds (gain_once (GRAINS * storage_limit 0) (20 * speed)) stock.metal;
+      crystal = times seconds (gain_once (GRAINS * storage_limit 0) (10 * speed)) stock.crystal;
+      deuterium = times seconds (gain_once (GRAINS * storage_limit 0) 0) stock.deuterium;
     }
 unfolding times
 times_stocks speed zero stock = refl

@@ -4,11 +4,12 @@ use Rattle.std.specs.Prelude.{ℤ}
 use Rattle.std.proofs.lemmas.Nat.{mul-le}
 use Rattle.std.proofs.Math.Nat.{zero-div}
 use Rattle.std.proofs.lemmas.Bool.Decides.{nat_tests}
-use Rattle.base_num.proofs.Quotients.{floor_bounds, ceiling_bounds, is_ceiling}
+use Rattle.base_num.proofs.Quotients.{floor_bounds, ceiling_bounds, is_ceiling, quotient_below}
+use Rattle.catalog.specs.declared.settings.TheConstants.{TOP_SPEED}
 use Rattle.rates.proofs.Powers.{ten_some}
-use Rattle.rates.proofs.Sizes.{quotient_below}
-use Rattle.rates.specs.Energy.{metal_tenths, crystal_tenths, deuterium_tenths, solar_tenths, satellite_tenths, given_of, need_of, IsGiven, IsNeeded}
-use Rattle.rates.specs.Formulas.{grown, grown_up, synthesized, collected, warmth}
+use Rattle.catalog.specs.declared.kind.Kind.TheVariants.{MetalMine, CrystalMine, DeuteriumSynth, SolarPlant, Satellite}
+use Rattle.rates.specs.Energy.{setting, given_of, need_of, IsGiven, IsNeeded}
+use Rattle.rates.specs.Formulas.{output, intake, synthesized, collected, warmth}
 use Rattle.rates.specs.Yields.{mines_of, scaled, hourly_of, AreMines, IsScaled, AreYields}
 use Rattle.rates.specs.declared.works.Works.{Works}
 
@@ -17,13 +18,13 @@ tenfold_some : (level : ℕ) → 1 ≤ 10 ^ level * 10
 tenfold_some level = let some = ten_some level in omega (arith, some)
 
 -- a product of a mine's yield at a speed with the energy that it has
-pub speed_fits : (mine speed : ℕ) → mine ≤ 16200 → speed ≤ 100 → mine * speed ≤ 1620000
-speed_fits mine speed low fast = mul-le mine speed 16200 100 low fast
+pub speed_fits : (mine speed : ℕ) → mine ≤ 16200 → speed ≤ TOP_SPEED → mine * speed ≤ 1620000
+speed_fits mine speed low fast = mul-le mine speed 16200 TOP_SPEED low fast
 
 pub energy_fits : (a b : ℕ) → a ≤ 1620000 → b ≤ 21600 → a * b ≤ 34992000000
 energy_fits a b low few = mul-le a b 1620000 21600 low few
 
--- where energy is needed
+-- if energy is needed
 pub scaled_is : (mine speed given need : ℕ) → 1 ≤ need → scaled mine speed given need ≡ mine * speed * min given need / need
 unfolding scaled
 scaled_is mine speed given need some = grind (arith, nat_tests)
@@ -49,31 +50,31 @@ pub ruleset shares = (speed_fits, energy_fits, scaled_is, scaled_idle, share_bel
 
 -- the energy has its bounds
 pub is_given : (works : Works) → IsGiven works (given_of works)
-unfolding given_of grown collected
+unfolding given_of output collected
 is_given works =
     record {
-      solar = grown 20 works.solar (solar_tenths works);
+      solar = output 20 works.solar (setting works SolarPlant);
       solar_is = floor_bounds _ _ (tenfold_some works.solar);
-      satellites = collected works.satellites works.t (satellite_tenths works);
+      satellites = collected works.satellites works.t (setting works Satellite);
       satellites_are = record { one = warmth works.t / 6; one_is = floor_bounds _ 6 (lit≤ tt); all_is = floor_bounds _ 10 (lit≤ tt) };
       sum = refl;
     }
 
 pub is_needed : (works : Works) → IsNeeded works (need_of works)
-unfolding need_of grown_up
+unfolding need_of intake
 is_needed works =
     record {
-      metal = grown_up 10 works.metal (metal_tenths works);
+      metal = intake 10 works.metal (setting works MetalMine);
       metal_is = ceiling_bounds _ _ (tenfold_some works.metal);
-      crystal = grown_up 10 works.crystal (crystal_tenths works);
+      crystal = intake 10 works.crystal (setting works CrystalMine);
       crystal_is = ceiling_bounds _ _ (tenfold_some works.crystal);
-      synthesizer = grown_up 20 works.deuterium (deuterium_tenths works);
+      synthesizer = intake 20 works.deuterium (setting works DeuteriumSynth);
       synthesizer_is = ceiling_bounds _ _ (tenfold_some works.deuterium);
       sum = refl;
     }
 
 pub are_mines : (works : Works) → AreMines works (mines_of works).metal (mines_of works).crystal (mines_of works).deuterium
-unfolding mines_of grown synthesized
+unfolding mines_of output synthesized
 are_mines works =
     record {
       metal_is = floor_bounds _ _ (tenfold_some works.metal);
@@ -100,18 +101,18 @@ are_yields works speed =
       crystal = refl;
       deuterium_share = scaled (mines_of works).deuterium speed (given_of works) (need_of works);
       deuterium_share_is = scaled_bounds _ _ _ _;
-      deuterium = omega arith;
+      deuterium = refl;
     }
 
 -- a work of level 0 makes, gives and needs nothing
-grown_none : (rate level tenths : ℕ) → level ≡ 0 → grown rate level tenths ≡ 0
-unfolding grown
-grown_none rate level tenths none =
+output_none : (rate level tenths : ℕ) → level ≡ 0 → output rate level tenths ≡ 0
+unfolding output
+output_none rate level tenths none =
     let nothing : rate * level * 11 ^ level * tenths ≡ 0 = rw none (omega arith) in rw nothing (zero-div (10 ^ level * 10))
 
-grown_up_none : (rate level tenths : ℕ) → level ≡ 0 → grown_up rate level tenths ≡ 0
-unfolding grown_up
-grown_up_none rate level tenths none =
+intake_none : (rate level tenths : ℕ) → level ≡ 0 → intake rate level tenths ≡ 0
+unfolding intake
+intake_none rate level tenths none =
     let nothing : rate * level * 11 ^ level * tenths ≡ 0 = rw none (omega arith) in
     let some = ten_some level in
     is_ceiling _ _ 0 (record { reaches = omega (arith, nothing); least = omega (arith, nothing, some) })
@@ -129,11 +130,11 @@ unfolding hourly_of given_of need_of
 without_works works speed metal crystal deuterium solar satellites =
     let need : need_of works ≡ 0 = omega (
       arith,
-      grown_up_none 10 works.metal (metal_tenths works) metal,
-      grown_up_none 10 works.crystal (crystal_tenths works) crystal,
-      grown_up_none 20 works.deuterium (deuterium_tenths works) deuterium,
+      intake_none 10 works.metal (setting works MetalMine) metal,
+      intake_none 10 works.crystal (setting works CrystalMine) crystal,
+      intake_none 20 works.deuterium (setting works DeuteriumSynth) deuterium,
     ) in
-    let given : given_of works ≡ 0 = omega (arith, grown_none 20 works.solar (solar_tenths works) solar, collected_none works.satellites works.t (satellite_tenths works) satellites) in
+    let given : given_of works ≡ 0 = omega (arith, output_none 20 works.solar (setting works SolarPlant) solar, collected_none works.satellites works.t (setting works Satellite) satellites) in
     let metal_alone : 20 * speed + scaled (mines_of works).metal speed (given_of works) (need_of works) ≡ 20 * speed = omega (arith, scaled_idle (mines_of works).metal speed (given_of works) (need_of works) need) in
     let crystal_alone : 10 * speed + scaled (mines_of works).crystal speed (given_of works) (need_of works) ≡ 10 * speed = omega (arith, scaled_idle (mines_of works).crystal speed (given_of works) (need_of works) need) in
     let deuterium_alone : 0 + scaled (mines_of works).deuterium speed (given_of works) (need_of works) ≡ 0 = omega (arith, scaled_idle (mines_of works).deuterium speed (given_of works) (need_of works) need) in

@@ -1,13 +1,14 @@
 -- How large the numbers of a planet's works can become.
 use Rattle.std.proofs.Common.{◌≡◌, ℕ, ◌+◌, ◌-◌, ◌*◌, ◌/◌, ◌^◌, ◌<◌, ◌≤◌, lit≤, le_refl, arith, refl}
-use Rattle.std.specs.Prelude.{ℤ, pos, negsuc, ◌≤ℤ◌}
+use Rattle.std.specs.Prelude.{ℤ, ◌≤ℤ◌}
 use Rattle.std.proofs.lemmas.Int.{ints}
 use Rattle.std.proofs.lemmas.Nat.{pow-add, mul-le}
-use Rattle.std.proofs.Math.Nat.{pow-le-pow_left, le_of_mul-le-mul_right, div-le_of_le-mul, div-mul-le_self, lt_of_mul-lt-mul_right, mul_comm}
-use Rattle.base_num.proofs.Quotients.{floor_bounds}
-use Rattle.base_num.specs.Division.{ceiling}
+use Rattle.std.proofs.Math.Nat.{pow-le-pow_left, le_of_mul-le-mul_right}
+use Rattle.base_num.proofs.Quotients.{floor_bounds, ceiling_below, quotient_below}
+use Rattle.catalog.specs.declared.ships.TheConstants.{UNITS}
+use Rattle.rates.specs.declared.works.TheConstants.{COLDEST, HOTTEST}
 use Rattle.rates.proofs.Powers.{ten_some}
-use Rattle.rates.specs.Formulas.{grown, grown_up, synthesized, collected, warmth, coldness, IsCollected}
+use Rattle.rates.specs.Formulas.{output, intake, synthesized, collected, warmth, coldness, IsCollected}
 
 -- up to level 30 a tenth more for each level is less than 18 times as much
 pub eleven_tens : (level : ℕ) → level ≤ 30 → 11 ^ level ≤ 18 * 10 ^ level
@@ -21,10 +22,6 @@ eleven_tens level low =
     let most : 11 ^ 30 ≤ 18 * 10 ^ 30 = lit≤ tt in
     le_of_mul-le-mul_right {k = 10 ^ rest} (omega arith) (ten_some rest)
 
--- a quotient is at most k where k divisors reach the number
-pub quotient_below : (number divisor k : ℕ) → number ≤ k * divisor → number / divisor ≤ k
-quotient_below number divisor k below = div-le_of_le-mul divisor (rw (mul_comm divisor k) below)
-
 product_below : (rate level tenths : ℕ) → level ≤ 30 → tenths ≤ 10 → rate * level * 11 ^ level * tenths ≤ 540 * rate * (10 ^ level * 10)
 product_below rate level tenths low few =
     let levels : rate * level ≤ rate * 30 = mul-le _ _ _ _ (le_refl _) low in
@@ -33,29 +30,20 @@ product_below rate level tenths low few =
     omega (arith, all)
 
 -- at ten tenths and level 30
-pub grown_below : (rate level tenths : ℕ) → level ≤ 30 → tenths ≤ 10 → grown rate level tenths ≤ 540 * rate
-unfolding grown
-grown_below rate level tenths low few = quotient_below _ _ (540 * rate) (product_below rate level tenths low few)
+pub output_below : (rate level tenths : ℕ) → level ≤ 30 → tenths ≤ 10 → output rate level tenths ≤ 540 * rate
+unfolding output
+output_below rate level tenths low few = quotient_below _ _ (540 * rate) (product_below rate level tenths low few)
 
--- a quotient rounded up is at most k where k divisors reach the number
-ceiling_below : (number divisor k : ℕ) → 1 ≤ divisor → number ≤ k * divisor → ceiling number divisor ≤ k
-ceiling_below number divisor k some below =
-    let quotient : ℕ = (number + (divisor - 1)) / divisor in
-    let fits : quotient * divisor ≤ number + (divisor - 1) = div-mul-le_self (number + (divisor - 1)) divisor in
-    let less : quotient * divisor < (k + 1) * divisor = omega (arith, fits, below) in
-    let bound : quotient < k + 1 = lt_of_mul-lt-mul_right divisor less in
-    omega (arith, bound)
-
-pub grown_up_below : (rate level tenths : ℕ) → level ≤ 30 → tenths ≤ 10 → grown_up rate level tenths ≤ 540 * rate
-unfolding grown_up
-grown_up_below rate level tenths low few =
+pub intake_below : (rate level tenths : ℕ) → level ≤ 30 → tenths ≤ 10 → intake rate level tenths ≤ 540 * rate
+unfolding intake
+intake_below rate level tenths low few =
     let some = ten_some level in ceiling_below _ _ (540 * rate) (omega (arith, some)) (product_below rate level tenths low few)
 
 -- the temperatures of planets
-pub warmth_below : (t : ℤ) → negsuc 129 ≤ℤ t → t ≤ℤ pos 260 → warmth t ≤ 400
+pub warmth_below : (t : ℤ) → COLDEST ≤ℤ t → t ≤ℤ HOTTEST → warmth t ≤ 400
 warmth_below t cold warm = omega (arith, ints)
 
-pub coldness_below : (t : ℤ) → negsuc 129 ≤ℤ t → t ≤ℤ pos 260 → coldness t ≤ 1540
+pub coldness_below : (t : ℤ) → COLDEST ≤ℤ t → t ≤ℤ HOTTEST → coldness t ≤ 1540
 coldness_below t cold warm = omega (arith, ints)
 
 synthesis_below : (level coldness tenths : ℕ) → level ≤ 30 → coldness ≤ 1540 → tenths ≤ 10
@@ -67,42 +55,42 @@ synthesis_below level coldness tenths low cold few =
     let all : 10 * level * 11 ^ level * coldness * tenths ≤ 300 * (18 * 10 ^ level) * 1540 * 10 = mul-le _ _ _ _ degrees few in
     omega (arith, all)
 
-pub synthesized_below : (level : ℕ) (t : ℤ) (tenths : ℕ) → level ≤ 30 → negsuc 129 ≤ℤ t → t ≤ℤ pos 260 → tenths ≤ 10
+pub synthesized_below : (level : ℕ) (t : ℤ) (tenths : ℕ) → level ≤ 30 → COLDEST ≤ℤ t → t ≤ℤ HOTTEST → tenths ≤ 10
     → synthesized level t tenths ≤ 8316
 unfolding synthesized
 synthesized_below level t tenths low cold warm few =
     quotient_below _ _ 8316 (synthesis_below level (coldness t) tenths low (coldness_below t cold warm) few)
 
-pub collected_below : (count : ℕ) (t : ℤ) (tenths : ℕ) → count ≤ 100000 → negsuc 129 ≤ℤ t → t ≤ℤ pos 260 → tenths ≤ 10
+pub collected_below : (count : ℕ) (t : ℤ) (tenths : ℕ) → count ≤ UNITS → COLDEST ≤ℤ t → t ≤ℤ HOTTEST → tenths ≤ 10
     → collected count t tenths ≤ 6600000
 unfolding collected
 collected_below count t tenths many cold warm few =
     let degrees : warmth t ≤ 400 = warmth_below t cold warm in
     let one : warmth t / 6 ≤ 66 = omega (arith, degrees) in
-    let all : count * (warmth t / 6) ≤ 100000 * 66 = mul-le _ _ _ _ many one in
-    let tenfold : count * (warmth t / 6) * tenths ≤ 100000 * 66 * 10 = mul-le _ _ _ _ all few in
+    let all : count * (warmth t / 6) ≤ UNITS * 66 = mul-le _ _ _ _ many one in
+    let tenfold : count * (warmth t / 6) * tenths ≤ UNITS * 66 * 10 = mul-le _ _ _ _ all few in
     quotient_below _ _ 6600000 tenfold
 
 -- the largest products
 pub level_fits : (rate level : ℕ) → level ≤ 30 → rate * level ≤ rate * 30
 level_fits rate level low = mul-le rate level rate 30 (le_refl rate) low
 
-pub power_fits : (rate a b : ℕ) → a ≤ rate * 30 → b ≤ 17449402268886407318558803753801 → a * b ≤ rate * 523482068066592219556764112614030
-power_fits rate a b low below = let all : a * b ≤ rate * 30 * 17449402268886407318558803753801 = mul-le _ _ _ _ low below in omega (arith, all)
+pub power_fits : (rate a b : ℕ) → a ≤ rate * 30 → b ≤ 11 ^ 30 → a * b ≤ rate * 30 * 11 ^ 30
+power_fits rate a b low below = mul-le a b (rate * 30) (11 ^ 30) low below
 
-pub tenths_fit : (a b : ℕ) → a ≤ 15704462041997766586702923378420900 → b ≤ 10 → a * b ≤ 157044620419977665867029233784209000
-tenths_fit a b low few = mul-le a b 15704462041997766586702923378420900 10 low few
+pub tenths_fit : (a b : ℕ) → a ≤ 900 * 11 ^ 30 → b ≤ 10 → a * b < 2 ^ 128
+tenths_fit a b low few = let all : a * b ≤ 900 * 11 ^ 30 * 10 = mul-le a b (900 * 11 ^ 30) 10 low few in omega (arith, all)
 
 pub ruleset products = (level_fits, power_fits)
 
-pub degrees_fit : (a b : ℕ) → a ≤ 5234820680665922195567641126140300 → b ≤ 1540 → a * b ≤ 8061623848225520181174167334256062000
-degrees_fit a b low cold = mul-le a b 5234820680665922195567641126140300 1540 low cold
+pub degrees_fit : (a b : ℕ) → a ≤ 300 * 11 ^ 30 → b ≤ 1540 → a * b ≤ 462000 * 11 ^ 30
+degrees_fit a b low cold = let all : a * b ≤ 300 * 11 ^ 30 * 1540 = mul-le a b (300 * 11 ^ 30) 1540 low cold in omega (arith, all)
 
-pub synthesis_fits : (a b : ℕ) → a ≤ 8061623848225520181174167334256062000 → b ≤ 10 → a * b ≤ 80616238482255201811741673342560620000
-synthesis_fits a b low few = mul-le a b 8061623848225520181174167334256062000 10 low few
+pub synthesis_fits : (a b : ℕ) → a ≤ 462000 * 11 ^ 30 → b ≤ 10 → a * b < 2 ^ 128
+synthesis_fits a b low few = let all : a * b ≤ 462000 * 11 ^ 30 * 10 = mul-le a b (462000 * 11 ^ 30) 10 low few in omega (arith, all)
 
-pub satellites_fit : (a b : ℕ) → a ≤ 100000 → b ≤ 66 → a * b ≤ 6600000
-satellites_fit a b many one = mul-le a b 100000 66 many one
+pub satellites_fit : (a b : ℕ) → a ≤ UNITS → b ≤ 66 → a * b ≤ 6600000
+satellites_fit a b many one = mul-le a b UNITS 66 many one
 
 pub set_satellites_fit : (a b : ℕ) → a ≤ 6600000 → b ≤ 10 → a * b ≤ 66000000
 set_satellites_fit a b many few = mul-le a b 6600000 10 many few
@@ -114,7 +102,7 @@ collected_has count t tenths a degrees n is_count is_warmth is_tenths =
     let is : a * (degrees / 6) * n / 10 ≡ count * (warmth t / 6) * tenths / 10 = cc in
     rw is (record { one = warmth t / 6; one_is = floor_bounds (warmth t) 6 (lit≤ tt); all_is = floor_bounds (count * (warmth t / 6) * tenths) 10 (lit≤ tt) })
 
-pub ruleset sizes = (grown_below, grown_up_below, tenths_fit)
+pub ruleset sizes = (output_below, intake_below, tenths_fit)
 
 pub ruleset degrees = (warmth_below, coldness_below)
 

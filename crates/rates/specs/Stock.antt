@@ -1,7 +1,9 @@
 -- One second of production, all stocks in grains of 1/3600 unit. Rules: docs/RULES.md, from "Resources and grains"
 -- to "Basic income".
 use Rattle.std.specs.Prelude.{ℕ, ◌+◌, ◌*◌, ◌/◌, ◌≤◌, min, nat_lt, if◌then◌else◌}
-use Rattle.rates.specs.declared.stock.TheConstants.{CAP, GRAINS, STORAGE}
+use Rattle.catalog.specs.Storage.{storage_limit}
+use Rattle.catalog.specs.declared.amounts.TheConstants.{CAP}
+use Rattle.rates.specs.declared.stock.TheConstants.{GRAINS}
 use Rattle.rates.specs.declared.resources.Resources.{Resources}
 
 -- Below its limit a stock gains the hourly yield and is cut at the limit; at or above its limit it stays.
@@ -14,9 +16,10 @@ gain_once limit hourly grains = if nat_lt grains limit then min (grains + hourly
 abbrev pub hourly_yield : ℕ → Resources
 hourly_yield speed = record { metal = 20 * speed; crystal = 10 * speed; deuterium = 0 }
 
--- Up to where production fills a planet's stocks, in units: no store can be built yet. Rule: docs/RULES.md, "Limits".
+-- Up to where production fills a planet's stocks, in units: no store can be built yet, so each has level 0.
+-- Rule: docs/RULES.md, "Limits".
 abbrev pub stored : Resources
-stored = record { metal = STORAGE; crystal = STORAGE; deuterium = STORAGE }
+stored = record { metal = storage_limit 0; crystal = storage_limit 0; deuterium = storage_limit 0 }
 
 -- The whole units of stocks, floored. Rule: docs/RULES.md, "Resources and grains".
 abbrev pub whole : Resources → Resources

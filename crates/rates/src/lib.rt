@@ -8,11 +8,10 @@ mod temperature;
 mod works;
 mod yields;
 
+pub use catalog::storage_limit as limit;
 pub use resources::Resources;
-pub use stock::{
-    CAP, GRAINS, STORAGE, basic_income, gain, limit, stocks_after, storage, whole_units,
-};
-pub use works::{Hourly, Works};
+pub use stock::{GRAINS, basic_income, gain, stocks_after, storage, whole_units};
+pub use works::{COLDEST, HOTTEST, Hourly, Works};
 pub use yields::hourly;
 
 #[cfg(test)]

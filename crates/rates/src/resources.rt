@@ -1,4 +1,4 @@
-/// A number for each resource: units or grains, as the place says where it stands.
+/// A number for each resource. Each use says whether these are units or grains.
 #[derive(Clone, Copy, Debug, PartialEq, Eq)]
 pub struct Resources {
     pub metal: u64,

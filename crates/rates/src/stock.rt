@@ -1,19 +1,12 @@
-ghost use Rattle.std.specs.Prelude.{◌≡◌, ◌*◌, ◌^◌, ◌≤◌, Some, slice_get};
-ghost use Rattle.catalog.specs.Storage.{storage_limits};
+ghost use Rattle.std.specs.Prelude.{◌≡◌, ◌*◌, ◌^◌, ◌≤◌};
 ghost use Rattle.rates.specs.Stock.{IsWithinCap, gain_once, hourly_yield, stocks_second, stored, whole};
 ghost use Rattle.rates.specs.Times.{times};
 
 use crate::resources::Resources;
-use catalog::storage_limit;
+use catalog::{CAP, TOP_SPEED, storage_limit};
 
 /// The grains in one unit of a resource: stocks are counted in grains.
 pub const GRAINS: u64 = 3600;
-
-/// The most units that a stock holds.
-pub const CAP: u64 = 4_000_000_000_000;
-
-/// The units of each resource up to which production fills a planet's stock, while no store can be built.
-pub const STORAGE: u64 = 10_000;
 
 /// The grains of a stock after `seconds` seconds of a yield of `hourly` units an hour.
 ///
@@ -30,18 +23,13 @@ pub fn gain(grains: u64, limit: u64, hourly: u64, seconds: u64) -> u64
     if grains >= limit {
         return grains;
     }
-    let gained = u128::from(hourly) * u128::from(seconds);
-    let room = limit - grains;
-    if gained < u128::from(room) {
-        grains + gained as u64
-    } else {
-        limit
-    }
+    let gained = hourly.saturating_mul(seconds);
+    grains.saturating_add(gained).min(limit)
 }
 
-/// What each planet yields an hour, in units, at a speed of 1 to 100.
+/// What each planet yields an hour, in units, at a speed of 1 to `TOP_SPEED`.
 pub fn basic_income(speed: u32) -> Resources
-    requires { speed ≤ 100 }
+    requires { speed ≤ TOP_SPEED }
     ensures { result ≡ hourly_yield speed }
 {
     let speed = u64::from(speed);
@@ -52,24 +40,16 @@ pub fn basic_income(speed: u32) -> Resources
     }
 }
 
-/// Up to where production fills a planet's stocks, in units.
+/// Up to where production fills a planet's stocks, in units: no store can be built yet, so each has level 0.
 pub fn storage() -> Resources
     ensures { result ≡ stored }
 {
+    let limit = storage_limit(0);
     Resources {
-        metal: STORAGE,
-        crystal: STORAGE,
-        deuterium: STORAGE,
+        metal: limit,
+        crystal: limit,
+        deuterium: limit,
     }
-}
-
-/// Up to how many units production fills a stock, by the level of its store, 0 to 16.
-pub fn limit(level: u8) -> u64
-    requires { level ≤ 16 }
-    ensures value { slice_get storage_limits level ≡ Some result }
-    ensures within { result ≤ CAP }
-{
-    storage_limit(level)
 }
 
 /// The whole units of stocks that are given in grains, floored.
@@ -83,19 +63,29 @@ pub fn whole_units(stock: Resources) -> Resources
     }
 }
 
-/// The stocks of a planet, in grains, after `seconds` seconds at a speed of 1 to 100.
+/// The stocks of a planet, in grains, after `seconds` seconds at a speed of 1 to `TOP_SPEED`.
 #[tactic(auto, using(crate::proofs::Gains::all_gains))]
 pub fn stocks_after(stock: Resources, speed: u32, seconds: u64) -> Resources
-    requires speed { speed ≤ 100 }
+    requires speed { speed ≤ TOP_SPEED }
     requires stock { IsWithinCap stock }
     ensures value { result ≡ times seconds (stocks_second speed) stock }
     ensures within { IsWithinCap result }
 {
     let income = basic_income(speed);
-    let limit = GRAINS * STORAGE;
+    let limits = storage();
     Resources {
-        metal: gain(stock.metal, limit, income.metal, seconds),
-        crystal: gain(stock.crystal, limit, income.crystal, seconds),
-        deuterium: gain(stock.deuterium, limit, income.deuterium, seconds),
+        metal: gain(stock.metal, GRAINS * limits.metal, income.metal, seconds),
+        crystal: gain(
+            stock.crystal,
+            GRAINS * limits.crystal,
+            income.crystal,
+            seconds,
+        ),
+        deuterium: gain(
+            stock.deuterium,
+            GRAINS * limits.deuterium,
+            income.deuterium,
+            seconds,
+        ),
     }
 }

@@ -1,6 +1,7 @@
-ghost use Rattle.std.specs.Prelude.{◌≡◌, ℕ, ◌*◌, ◌/◌, ◌^◌, ◌≤◌, pos, negsuc, ◌≤ℤ◌};
-ghost use Rattle.base_num.specs.Division.{IsFloor};
-ghost use Rattle.rates.specs.Formulas.{IsCollected, coldness, collected, synthesized, warmth};
+ghost use Rattle.std.specs.Prelude.{◌≡◌, ℕ, ◌*◌, ◌/◌, ◌^◌, ◌≤◌, ◌≤ℤ◌};
+ghost use Rattle.catalog.specs.declared.ships.TheConstants.{UNITS};
+ghost use Rattle.rates.specs.declared.works.TheConstants.{COLDEST, HOTTEST};
+ghost use Rattle.rates.specs.Formulas.{IsCollected, IsSynthesized, coldness, collected, synthesized, warmth};
 
 use crate::growth::{power, ten};
 use base_num::floor;
@@ -8,8 +9,8 @@ use base_num::floor;
 /// The degrees of a temperature above -140 degrees: 10 to 400.
 #[tactic(auto, using(crate::proofs::Sizes::degrees))]
 fn warmth(t: i16) -> u64
-    requires coldest { negsuc 129 ≤ℤ t }
-    requires warmest { t ≤ℤ pos 260 }
+    requires coldest { COLDEST ≤ℤ t }
+    requires hottest { t ≤ℤ HOTTEST }
     ensures value { result ≡ warmth t }
     ensures within { result ≤ 400 }
 {
@@ -19,8 +20,8 @@ fn warmth(t: i16) -> u64
 /// The degrees by which a temperature, taken twice, is below 1280 degrees: 760 to 1540.
 #[tactic(auto, using(crate::proofs::Sizes::degrees))]
 fn coldness(t: i16) -> u64
-    requires coldest { negsuc 129 ≤ℤ t }
-    requires warmest { t ≤ℤ pos 260 }
+    requires coldest { COLDEST ≤ℤ t }
+    requires hottest { t ≤ℤ HOTTEST }
     ensures value { result ≡ coldness t }
     ensures within { result ≤ 1540 }
 {
@@ -31,10 +32,10 @@ fn coldness(t: i16) -> u64
 #[tactic(auto, using(crate::proofs::Sizes::synthesis), unfolding(crate::specs::Formulas::synthesized))]
 pub fn synthesized(level: u8, t: i16, tenths: u8) -> u64
     requires level { level ≤ 30 }
-    requires coldest { negsuc 129 ≤ℤ t }
-    requires warmest { t ≤ℤ pos 260 }
+    requires coldest { COLDEST ≤ℤ t }
+    requires hottest { t ≤ℤ HOTTEST }
     requires tenths { tenths ≤ 10 }
-    ensures bounds { IsFloor (10 * level * 11 ^ level * coldness t * tenths) (10 ^ level * 1000 * 10) result }
+    ensures bounds { IsSynthesized level t tenths result }
     ensures value { result ≡ synthesized level t tenths }
     ensures within { result ≤ 8316 }
 {
@@ -46,9 +47,9 @@ pub fn synthesized(level: u8, t: i16, tenths: u8) -> u64
 /// What satellites give: the more, the warmer their planet is. What one of them gives is rounded down first.
 #[tactic(auto, using(crate::proofs::Sizes::collection, std::proofs::lemmas::Int::ints), unfolding(crate::specs::Formulas::collected))]
 pub fn collected(count: u32, t: i16, tenths: u8) -> u64
-    requires count { count ≤ 100000 }
-    requires coldest { negsuc 129 ≤ℤ t }
-    requires warmest { t ≤ℤ pos 260 }
+    requires count { count ≤ UNITS }
+    requires coldest { COLDEST ≤ℤ t }
+    requires hottest { t ≤ℤ HOTTEST }
     requires tenths { tenths ≤ 10 }
     ensures bounds { IsCollected count t tenths result }
     ensures value { result ≡ collected count t tenths }

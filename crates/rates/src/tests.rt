@@ -1,6 +1,11 @@
+ghost use Rattle.std.specs.Prelude.{◌≡◌};
 ghost use Rattle.rates.specs.Energy.{IsInRange};
 
-use crate::{CAP, GRAINS, Resources, STORAGE, Works, basic_income, gain, hourly, limit};
+use crate::{
+    COLDEST, GRAINS, HOTTEST, Resources, Works, basic_income, gain, hourly, limit, stocks_after,
+    storage, whole_units,
+};
+use catalog::{CAP, UNITS};
 
 /// One stock: its grains, limit and hourly yield, the seconds that pass, and the grains wanted then.
 type Case = (u64, u64, u64, u64, u64);
@@ -270,8 +275,8 @@ fn works_of(levels: [u8; 4], sets: [u8; 5], satellites: u32, t: i16) -> Works
             fourth.min(10),
             fifth.min(10),
         ],
-        satellites: satellites.min(100_000),
-        t: t.clamp(-130, 260),
+        satellites: satellites.min(UNITS),
+        t: t.clamp(COLDEST, HOTTEST),
     }
 }
 
@@ -307,12 +312,36 @@ fn a_planet_without_works_has_the_basic_income_alone(rt: HostRuntime) {
 #[test]
 fn a_store_is_filled_up_to_the_limit_of_its_level(rt: HostRuntime) {
     for (level, units) in [
-        (0, STORAGE),
+        (0, 10_000),
         (1, 20_000),
         (7, 865_000),
         (15, 110_925_000),
         (16, 203_350_000),
     ] {
         assert_eq!(rt; limit(level), units);
+    }
+    assert_eq!(rt; storage(), resources(10_000, 10_000, 10_000));
+}
+
+#[test]
+fn stocks_gain_the_basic_income_and_show_whole_units(rt: HostRuntime) {
+    let first = resources(500 * GRAINS, 9999 * GRAINS, 7);
+    let hour = stocks_after(first, 7, 3600);
+    assert_eq!(rt; hour, resources(640 * GRAINS, 10_000 * GRAINS, 7));
+    let second = stocks_after(first, 7, 1);
+    assert_eq!(rt; second, resources(1_800_140, 35_996_470, 7));
+    assert_eq!(rt; whole_units(second), resources(500, 9999, 0));
+}
+
+/// Metal, crystal and deuterium.
+fn resources(metal: u64, crystal: u64, deuterium: u64) -> Resources
+    ensures metal { result.metal ≡ metal }
+    ensures crystal { result.crystal ≡ crystal }
+    ensures deuterium { result.deuterium ≡ deuterium }
+{
+    Resources {
+        metal,
+        crystal,
+        deuterium,
     }
 }

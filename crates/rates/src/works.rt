@@ -1,6 +1,12 @@
+/// The lowest maximum temperature that a planet can have, in degrees.
+pub const COLDEST: i16 = -130;
+
+/// The highest maximum temperature that a planet can have, in degrees.
+pub const HOTTEST: i16 = 260;
+
 /// The works of a planet: the levels of the metal mine, the crystal mine, the deuterium synthesizer and the solar
 /// plant, 0 to 30 each; the tenths at which the four and then the satellites work, 0 to 10 each; the number of
-/// satellites, up to 100000; and the planet's maximum temperature in degrees, -130 to 260.
+/// satellites, up to `catalog::UNITS`; and the planet's maximum temperature in degrees, `COLDEST` to `HOTTEST`.
 #[derive(Clone, Copy, Debug, PartialEq, Eq)]
 pub struct Works {
     pub metal: u8,

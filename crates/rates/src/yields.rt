@@ -1,21 +1,22 @@
 ghost use Rattle.std.specs.Prelude.{◌≡◌, ◌≤◌};
+ghost use Rattle.catalog.specs.declared.settings.TheConstants.{TOP_SPEED};
 ghost use Rattle.rates.specs.Energy.{IsGiven, IsInRange, IsNeeded, given_of, need_of};
 ghost use Rattle.rates.specs.Yields.{AreMines, AreSmall, AreYields, IsScaled, hourly_of, mines_of, scaled};
 
-use crate::growth::{grown, grown_up};
+use crate::growth::{intake, output};
 use crate::resources::Resources;
 use crate::stock::basic_income;
 use crate::temperature::{collected, synthesized};
 use crate::works::{Hourly, Works};
 
-/// What a planet with these works yields an hour, in units, at a speed of 1 to 100, and the energy that its works give
+/// What a planet with these works yields an hour, in units, at a speed of 1 to `TOP_SPEED`, and the energy that its works give
 /// and need.
 ///
-/// The mines share the energy: where less is given than needed, each yields its part. The basic income stays whole.
+/// The mines share the energy: if less is given than needed, each yields its part. The basic income stays whole.
 #[tactic(auto, using(crate::proofs::Shares::are_yields), unfolding(crate::specs::Yields::hourly_of))]
 pub fn hourly(w: &Works, speed: u32) -> Hourly
     requires works { IsInRange w.now }
-    requires speed { speed ≤ 100 }
+    requires speed { speed ≤ TOP_SPEED }
     ensures value { result ≡ hourly_of w.now speed }
     ensures bounds { AreYields w.now speed result }
     ensures within { AreSmall result }
@@ -41,8 +42,8 @@ fn given(works: &Works) -> u64
     ensures value { result ≡ given_of works.now }
     ensures within { result ≤ 6610800 }
 {
-    let solar = grown(20, works.solar, works.sets[3]);
-    solar + collected(works.satellites, works.t, works.sets[4])
+    let [_, _, _, solar, satellites] = works.sets;
+    output(20, works.solar, solar) + collected(works.satellites, works.t, satellites)
 }
 
 /// The energy that the mines and the synthesizer need.
@@ -53,12 +54,13 @@ fn need(works: &Works) -> u64
     ensures value { result ≡ need_of works.now }
     ensures within { result ≤ 21600 }
 {
-    let metal = grown_up(10, works.metal, works.sets[0]);
-    let crystal = grown_up(10, works.crystal, works.sets[1]);
-    metal + crystal + grown_up(20, works.deuterium, works.sets[2])
+    let [metal, crystal, deuterium, _, _] = works.sets;
+    intake(10, works.metal, metal)
+        + intake(10, works.crystal, crystal)
+        + intake(20, works.deuterium, deuterium)
 }
 
-/// What the mines and the synthesizer make at speed 1, where all the energy that they need is given.
+/// What the mines and the synthesizer make at speed 1 if all the energy that they need is given.
 #[tactic(auto, using(crate::proofs::Shares::are_mines, std::proofs::lemmas::Int::ints), unfolding(crate::specs::Yields::mines_of))]
 fn mines(works: &Works) -> Resources
     requires { IsInRange works.now }
@@ -68,18 +70,19 @@ fn mines(works: &Works) -> Resources
     ensures crystal { result.crystal ≤ 10800 }
     ensures deuterium { result.deuterium ≤ 8316 }
 {
+    let [metal, crystal, deuterium, _, _] = works.sets;
     Resources {
-        metal: grown(30, works.metal, works.sets[0]),
-        crystal: grown(20, works.crystal, works.sets[1]),
-        deuterium: synthesized(works.deuterium, works.t, works.sets[2]),
+        metal: output(30, works.metal, metal),
+        crystal: output(20, works.crystal, crystal),
+        deuterium: synthesized(works.deuterium, works.t, deuterium),
     }
 }
 
-/// What a mine adds at a speed: its share of the energy that is needed, rounded down once. Nothing where none is needed.
+/// What a mine adds at a speed: its share of the energy that is needed, rounded down once. Nothing if none is needed.
 #[tactic(auto, using(crate::proofs::Shares::shares, base_num::proofs::Quotients::quotients))]
 fn scaled(mine: u64, speed: u32, given: u64, need: u64) -> u64
     requires mine { mine ≤ 16200 }
-    requires speed { speed ≤ 100 }
+    requires speed { speed ≤ TOP_SPEED }
     requires need { need ≤ 21600 }
     ensures bounds { IsScaled mine speed given need result }
     ensures value { result ≡ scaled mine speed given need }

@@ -1,4 +1,4 @@
-use Rattle.base_ids.proofs.Ordering.{cells_ordered, coords_ordered, keys_ordered, players_ordered}
+use Rattle.base_ids.proofs.Ordering.{cells_ordered, coords_ordered, events_ordered, keys_ordered, players_ordered}
 use Rattle.base_ids.proofs.laws.orders.Goals as goal
 
 pub returns-clause-players : goal.returns-clause-players
@@ -9,6 +9,9 @@ returns-clause-coordinates c = coords_ordered
 
 pub returns-clause-cells : goal.returns-clause-cells
 returns-clause-cells c = cells_ordered
+
+pub returns-clause-events : goal.returns-clause-events
+returns-clause-events c = events_ordered
 
 pub returns-clause-keys : goal.returns-clause-keys
 returns-clause-keys c = keys_ordered
