@@ -6,7 +6,7 @@ use std::fmt;
 /// The most units of a resource that a stock, a cargo or a cost can have.
 pub const CAP: u64 = 4_000_000_000_000;
 
-/// Units of metal, crystal and deuterium, each at most `CAP`. The text is `M C D`.
+/// Units of metal, crystal and deuterium, each at most `CAP`. The text is `METAL CRYSTAL DEUTERIUM`.
 #[derive(Clone, Copy, Debug, PartialEq, Eq)]
 pub struct Amounts {
     pub m: u64,

@@ -1,238 +1,271 @@
 -- How far the answers to a script have come.
-use Rattle.std.proofs.Common.{◌≡◌, ℕ, ◌+◌, ◌≤◌, true, List, [], ◌∷◌, ◌++◌, None, Some, Option, length, take, inl, inr, arith, refl, ap, ◌∙◌, sym, subst}
-use Rattle.std.specs.Prelude.{Result, Ok, Err, OnErr}
+use Rattle.std.proofs.Common.{◌≡◌, ℕ, ◌+◌, ◌*◌, ◌≤◌, ◌<◌, true, false, Bool, List, [], ◌∷◌, ◌++◌, None, Some, Option, length, take, inl, inr, arith, refl, ap, ◌∙◌, sym, subst, decimal, length-append}
 use Rattle.std.proofs.lemmas.List.{append-nil, take_all}
 use Rattle.std.proofs.Math.Seq.{take-append-add}
 use Rattle.std.proofs.KnownBytes.{Appends-nil, Appends-trans}
 use Rattle.std.specs.Io.KnownBytes.{Appends}
 use Rattle.std.specs.Str.Lines.{lines}
 use Rattle.base_text.specs.Parts.{Lacks}
-use Rattle.ports.specs.Readings.{TellsReadings}
-use Rattle.ports.proofs.Tellings.{tells-all, tells-more, tells-none}
+use Rattle.ports.specs.Readings.{TellsReading, TellsReadings}
+use Rattle.ports.proofs.Tellings.{tells-all, tells-none}
 use Rattle.request_text.proofs.LineHearing.{Heard, heard-all, heard-line, heard-lines, heard-start, pends}
-use Rattle.request_text.specs.LineReading.{Follows, Sees, kept}
+use Rattle.request_text.specs.LineReading.{Follows, Leaves, Sees, Stays, Tells, advance, answered_line, kept, line_of, stop_of}
+use Rattle.request_text.specs.declared.line_reader.TheConstants.{LONGEST_LINE}
+use Rattle.request_text.specs.declared.line_reader.Line.TheVariants as L
+use Rattle.request_text.specs.declared.line_reader.Stop.{Stop}
+use Rattle.request_text.specs.declared.line_reader.Stop.TheVariants.{Fault, Spent}
+use Rattle.request_text.specs.declared.line_reader.Told.{Told as ToldLine}
+use Rattle.request_text.specs.declared.line_reader.Told.TheVariants.{Text, Long}
 use Rattle.request_text.specs.declared.call.Call.{Call}
 use Rattle.request_text.specs.declared.entry.Entry.{Entry}
 use Rattle.request_text.specs.declared.line_reader.LineReader.{LineReader}
 use Rattle.reply_text.specs.Heads.{text}
-use Rattle.request_text.specs.Grammar.{Spells}
+use Rattle.request_text.specs.Grammar.{Spells, timed_words}
+use Rattle.request_text.specs.Forms.{form_word}
+use Rattle.request_text.specs.Words.{argument_words, form_of, request_words}
+use Rattle.request_text.specs.declared.request.Request.{Request}
+use Rattle.base_ids.specs.Text.{player_text}
+use Rattle.base_ids.specs.declared.player.Player.{Player}
+use Rattle.base_text.proofs.Splitting.{join-parts}
+use Rattle.std.specs.List.{join_with_byte}
+use Rattle.std.proofs.lemmas.Fmt.{decimal_nonempty}
 use Rattle.request_text.proofs.Spellings.{one_call}
+use Rattle.tick_model.specs.Standing.{Stands}
 use Rattle.tick_model.specs.Step.{IsBuilt}
-use Rattle.tick_model.specs.Talk.{AsksNothing, bad_line, long_line}
+use Rattle.tick_model.specs.Talk.{AsksFor, AsksNothing, CameAt}
 use Rattle.tick_model.specs.Universe.{Universe}
-use Rattle.tick_model.proofs.Talks.{Told, told-nothing, told-long, told-bad, told-timed, told-clocked, told-all}
-use Rattle.tick_model.proofs.Worlds.{Stands, stands-base, stands-asked, asked-number}
-use Rattle.command.specs.Answers.{Answered, AnsweredPart, BrokeOff, CameAt, Called, Dismissed, TellsAtMostOne, Turns}
+use Rattle.tick_model.proofs.Talks.{Told, told-nothing, told-long, told-bad, told-answered, told-unanswered, told-all}
+use Rattle.tick_model.proofs.Worlds.{stands-base, stands-asked}
+use Rattle.command.specs.Answers.{Answered, AnsweredAll, AnsweredPart, BrokeOff, IsTold, Turn, too_long, asks_nothing, asked, lacks_memory, Turns}
 
--- From a base on, these lines were answered. The universe stands for their history, the clock has told their readings, and the
--- sink has their answers.
-pub record Progress (base now : Universe) (done : List (List ℕ)) (t0 t1 w0 w1 : Option (List ℕ)) : Type 0 where
+-- From a base on, these lines were answered with the bytes. The universe stands for their history, and the clock has told their
+-- readings.
+pub record Progress (base now : Universe) (done : List (List ℕ)) (t0 t1 : Option (List ℕ)) (bytes : List ℕ) : Type 0 where
   pub history : List Entry
+  pub lacking : List Bool
   pub readings : List ℕ
-  pub bytes : List ℕ
   pub stands : Stands base history now
-  pub told : Told base history done readings bytes
+  pub told : Told base history done lacking readings bytes
   pub tells : TellsReadings t0 t1 readings
-  pub wrote : Appends w0 w1 bytes
 
-progress-start : (base : Universe) (t w : Option (List ℕ)) → Progress base base [] t t w w
-progress-start base t w =
+progress-start : (base : Universe) (t : Option (List ℕ)) → Progress base base [] t t []
+progress-start base t =
     record {
       history = [];
+      lacking = [];
       readings = [];
-      bytes = [];
       stands = stands-base base;
       told = told-nothing base;
       tells = tells-none t;
-      wrote = Appends-nil w;
     }
 
--- what is known of a line that was answered, before its answer was written
-pub record After (base next : Universe) (done : List (List ℕ)) (t0 t2 : Option (List ℕ)) (bytes answer : List ℕ) : Type 0 where
-  pub history : List Entry
-  pub readings : List ℕ
-  pub stands : Stands base history next
-  pub told : Told base history done readings (bytes ++ answer)
-  pub tells : TellsReadings t0 t2 readings
+-- a line that took no reading
+no_reading : (t0 t1 t2 : Option (List ℕ)) (readings : List ℕ) → TellsReadings t0 t1 readings → TellsReadings t1 t2 [] → TellsReadings t0 t2 readings
+no_reading t0 t1 t2 readings before tells = subst (TellsReadings t0 t2) (append-nil readings) (tells-all t0 t1 t2 readings [] before tells)
 
-after-dismissed : (base now next : Universe) (done : List (List ℕ)) (line answer given : List ℕ) (t0 t1 t2 w0 w1 : Option (List ℕ)) → (before : Progress base now done t0 t1 w0 w1)
-    → Dismissed now next t1 t2 answer given → Told base before.history (done ++ line ∷ []) before.readings (before.bytes ++ given) → After base next (done ++ line ∷ []) t0 t2 before.bytes answer
-after-dismissed base now next done line answer given t0 t1 t2 w0 w1 before dismissed told =
+-- one line more was answered
+progress-turn : (base now : Universe) (done : List (List ℕ)) (line : List ℕ) (t0 t1 t2 : Option (List ℕ)) (bytes : List ℕ) (before : Progress base now done t0 t1 bytes) (next : Universe) (taken answer : List ℕ)
+    → TellsReadings t1 t2 taken → Turn now line next taken answer → Progress base next (done ++ line ∷ []) t0 t2 (bytes ++ answer)
+progress-turn base now done line t0 t1 t2 bytes before _ _ _ tells (too_long over) =
     record {
       history = before.history;
+      lacking = before.lacking ++ false ∷ [];
       readings = before.readings;
-      stands = subst (Stands base before.history) (sym dismissed.unasked) before.stands;
-      told = subst (λ t. Told base before.history (done ++ line ∷ []) before.readings (before.bytes ++ t)) (sym dismissed.bytes_are) told;
-      tells = subst (λ t. TellsReadings t0 t before.readings) (sym dismissed.untold) before.tells;
+      stands = before.stands;
+      told = told-long base before.history done before.lacking before.readings bytes line before.told over;
+      tells = no_reading t0 t1 t2 before.readings before.tells tells;
     }
-
-after-called : (base now next : Universe) (done : List (List ℕ)) (line answer : List ℕ) (t0 t1 t2 w0 w1 : Option (List ℕ)) → (before : Progress base now done t0 t1 w0 w1) → (called : Called now next t1 t2 line answer)
-    → (named : Option ℕ) → called.call.reading ≡ named → CameAt named called.reading t1 t2 → After base next (done ++ line ∷ []) t0 t2 before.bytes answer
-after-called base now next done line answer t0 t1 t2 w0 w1 before called (Some named) is came =
-    let next_entry = stands-asked base before.history now next called.call.player called.call.req called.reading called.answer before.stands called.asked in
-    let as_told = called.text_is ∙ ap text next_entry.replied in
-    let names = is ∙ ap Some (sym came.0) in
-    let told = told-timed base before.history done before.readings before.bytes line called.call called.reading next_entry.entry before.told called.short called.asks names (record { reading = next_entry.reading_is; player = next_entry.player_is; req = next_entry.req_is }) in
-    record {
-      history = before.history ++ next_entry.entry ∷ [];
-      readings = before.readings;
-      stands = next_entry.stands;
-      told = subst (λ t. Told base (before.history ++ next_entry.entry ∷ []) (done ++ line ∷ []) before.readings (before.bytes ++ t)) (sym as_told) told;
-      tells = subst (λ t. TellsReadings t0 t before.readings) (sym came.1) before.tells;
-    }
-after-called base now next done line answer t0 t1 t2 w0 w1 before called None is came =
-    let next_entry = stands-asked base before.history now next called.call.player called.call.req called.reading called.answer before.stands called.asked in
-    let as_told = called.text_is ∙ ap text next_entry.replied in
-    let told = told-clocked base before.history done before.readings before.bytes line called.call called.reading next_entry.entry before.told called.short called.asks is (record { reading = next_entry.reading_is; player = next_entry.player_is; req = next_entry.req_is }) in
-    record {
-      history = before.history ++ next_entry.entry ∷ [];
-      readings = before.readings ++ called.reading ∷ [];
-      stands = next_entry.stands;
-      told = subst (λ t. Told base (before.history ++ next_entry.entry ∷ []) (done ++ line ∷ []) (before.readings ++ called.reading ∷ []) (before.bytes ++ t)) (sym as_told) told;
-      tells = tells-more t0 t1 t2 before.readings called.reading before.tells came;
-    }
-
-after-turn : (base now next : Universe) (done : List (List ℕ)) (line answer : List ℕ) (t0 t1 t2 w0 w1 : Option (List ℕ)) → (before : Progress base now done t0 t1 w0 w1) → Turns now next t1 t2 line answer → After base next (done ++ line ∷ []) t0 t2 before.bytes answer
-after-turn base now next done line answer t0 t1 t2 w0 w1 before (inl over) =
-    after-dismissed base now next done line answer long_line t0 t1 t2 w0 w1 before over.1 (told-long base before.history done before.readings before.bytes line before.told over.0)
-after-turn base now next done line answer t0 t1 t2 w0 w1 before (inr (inl bad)) =
-    after-dismissed base now next done line answer bad_line t0 t1 t2 w0 w1 before bad.2 (told-bad base before.history done before.readings before.bytes line before.told bad.0 bad.1)
-after-turn base now next done line answer t0 t1 t2 w0 w1 before (inr (inr called)) = after-called base now next done line answer t0 t1 t2 w0 w1 before called called.call.reading refl called.came
-
--- a line was answered, and its answer written
-progress-more : (base now next : Universe) (done : List (List ℕ)) (line answer : List ℕ) (t0 t1 t2 w0 w1 w2 : Option (List ℕ)) → Progress base now done t0 t1 w0 w1 → Turns now next t1 t2 line answer → Appends w1 w2 answer
-    → Progress base next (done ++ line ∷ []) t0 t2 w0 w2
-progress-more base now next done line answer t0 t1 t2 w0 w1 w2 before turn wrote =
-    let came = after-turn base now next done line answer t0 t1 t2 w0 w1 before turn in
-    record {
-      history = came.history;
-      readings = came.readings;
-      bytes = before.bytes ++ answer;
-      stands = came.stands;
-      told = came.told;
-      tells = came.tells;
-      wrote = Appends-trans w0 w1 w2 before.bytes answer before.wrote wrote;
-    }
-
-pub progress-answered : (base now : Universe) (done : List (List ℕ)) (t0 t1 w0 w1 : Option (List ℕ)) → Progress base now done t0 t1 w0 w1 → Answered base done t0 t1 w0 w1
-progress-answered base now done t0 t1 w0 w1 before =
+progress-turn base now done line t0 t1 t2 bytes before _ _ _ tells (asks_nothing short nothing) =
     record {
       history = before.history;
+      lacking = before.lacking ++ false ∷ [];
       readings = before.readings;
-      bytes = before.bytes;
-      legal = before.stands.legal;
-      talk = told-all base before.history done before.readings before.bytes before.told;
+      stands = before.stands;
+      told = told-bad base before.history done before.lacking before.readings bytes line before.told short nothing;
+      tells = no_reading t0 t1 t2 before.readings before.tells tells;
+    }
+progress-turn base now done line t0 t1 t2 bytes before _ _ _ tells (asked call reading taken new reply short asks came ask) =
+    let next = stands-asked base before.history now new call.player call.req reading reply before.stands ask in
+    let told = told-answered base before.history done before.lacking before.readings bytes line taken call reading next.entry before.told short asks came (record { reading = next.reading_is; player = next.player_is; req = next.req_is }) in
+    record {
+      history = before.history ++ next.entry ∷ [];
+      lacking = before.lacking ++ false ∷ [];
+      readings = before.readings ++ taken;
+      stands = next.stands;
+      told = subst (λ answer. Told base (before.history ++ next.entry ∷ []) (done ++ line ∷ []) (before.lacking ++ false ∷ []) (before.readings ++ taken) (bytes ++ text answer)) (sym next.replied) told;
+      tells = tells-all t0 t1 t2 before.readings taken before.tells tells;
+    }
+progress-turn base now done line t0 t1 t2 bytes before _ _ _ tells (lacks_memory call reading taken short asks came) =
+    record {
+      history = before.history;
+      lacking = before.lacking ++ true ∷ [];
+      readings = before.readings ++ taken;
+      stands = before.stands;
+      told = told-unanswered base before.history done before.lacking before.readings bytes line taken call reading before.told short asks came;
+      tells = tells-all t0 t1 t2 before.readings taken before.tells tells;
+    }
+
+progress-answered : (base now : Universe) (done : List (List ℕ)) (t0 t1 : Option (List ℕ)) (bytes : List ℕ) → Progress base now done t0 t1 bytes → Answered base now done t0 t1 bytes
+progress-answered base now done t0 t1 bytes before =
+    record {
+      history = before.history;
+      lacking = before.lacking;
+      readings = before.readings;
+      stands = before.stands;
+      talk = told-all base before.history done before.lacking before.readings bytes before.told;
       tells = before.tells;
-      wrote = before.wrote;
     }
 
--- Of a whole text some lines were answered, and the reader sees the rest.
+-- Of a whole text some lines were answered, the sink has the answers, and the reader sees the rest.
 pub record Come (reader : LineReader) (left : List ℕ) (base now : Universe) (whole : List ℕ) (t0 t1 w0 w1 : Option (List ℕ)) : Type 0 where
   pub done : List (List ℕ)
   pub rest : List ℕ
   pub heard : Heard whole done rest
   pub sees : Sees reader left rest
-  pub progress : Progress base now done t0 t1 w0 w1
+  pub bytes : List ℕ
+  pub progress : Progress base now done t0 t1 bytes
+  pub wrote : Appends w0 w1 bytes
 
 pub come-start : (reader : LineReader) (left : List ℕ) (base : Universe) (whole : List ℕ) (t w : Option (List ℕ)) → Sees reader left whole → Come reader left base base whole t t w w
-come-start reader left base whole t w sees = record { done = []; rest = whole; heard = heard-start whole; sees = sees; progress = progress-start base t w }
+come-start reader left base whole t w sees =
+    record {
+      done = [];
+      rest = whole;
+      heard = heard-start whole;
+      sees = sees;
+      bytes = [];
+      progress = progress-start base t;
+      wrote = Appends-nil w;
+    }
+
+-- the next line was told, and answered with these bytes
+pub record Goes (reader : LineReader) (more rest : List ℕ) (now next : Universe) (t1 t2 : Option (List ℕ)) (answer : List ℕ) : Type 0 where
+  pub line : List ℕ
+  pub follows : Follows reader more rest line
+  pub turn : Turns now next t1 t2 line answer
 
 -- one line more was answered, and its answer written
 pub come-more : (reader reader' : LineReader) (left more : List ℕ) (base now next : Universe) (whole answer : List ℕ) (t0 t1 t2 w0 w1 w2 : Option (List ℕ)) → (before : Come reader left base now whole t0 t1 w0 w1)
-    → (line : List ℕ) × (Follows reader' more before.rest line × Turns now next t1 t2 line answer) → Appends w1 w2 answer → Come reader' more base next whole t0 t2 w0 w2
-come-more reader reader' left more base now next whole answer t0 t1 t2 w0 w1 w2 before (line, (follows, turn)) wrote =
+    → Goes reader' more before.rest now next t1 t2 answer → Appends w1 w2 answer → Come reader' more base next whole t0 t2 w0 w2
+come-more reader reader' left more base now next whole answer t0 t1 t2 w0 w1 w2 before goes wrote =
     record {
-      done = before.done ++ line ∷ [];
-      rest = follows.rest;
-      heard = heard-line whole before.rest line more before.done reader' before.heard follows;
-      sees = follows.sees;
-      progress = progress-more base now next before.done line answer t0 t1 t2 w0 w1 w2 before.progress turn wrote;
+      done = before.done ++ goes.line ∷ [];
+      rest = goes.follows.rest;
+      heard = heard-line whole before.rest goes.line more before.done reader' before.heard goes.follows;
+      sees = goes.follows.sees;
+      bytes = before.bytes ++ answer;
+      progress = progress-turn base now before.done goes.line t0 t1 t2 before.bytes before.progress next goes.turn.0 answer goes.turn.1 goes.turn.2;
+      wrote = Appends-trans w0 w1 w2 before.bytes answer before.wrote wrote;
     }
 
+come-all : (reader : LineReader) (left : List ℕ) (base now : Universe) (whole : List ℕ) (t0 t1 w0 w1 : Option (List ℕ)) → (before : Come reader left base now whole t0 t1 w0 w1) → AnsweredAll base now before.done t0 t1 w0 w1
+come-all reader left base now whole t0 t1 w0 w1 before =
+    record { bytes = before.bytes; answered = progress-answered base now before.done t0 t1 before.bytes before.progress; wrote = before.wrote }
+
 -- no line is left
-pub come-end : (reader : LineReader) (left more : List ℕ) (base now : Universe) (whole : List ℕ) (t0 t1 t2 w0 w1 : Option (List ℕ)) → (before : Come reader left base now whole t0 t1 w0 w1) → t2 ≡ t1 → (before.rest ≡ []) × (more ≡ [])
-    → (more ≡ []) × Answered base (lines whole) t0 t2 w0 w1
-come-end reader left more base now whole t0 t1 t2 w0 w1 before told end =
+pub come-end : (reader : LineReader) (left more : List ℕ) (base now : Universe) (whole : List ℕ) (t0 t1 w0 w1 : Option (List ℕ)) → (before : Come reader left base now whole t0 t1 w0 w1) → (before.rest ≡ []) × (more ≡ [])
+    → (more ≡ []) × AnsweredAll base now (lines whole) t0 t1 w0 w1
+come-end reader left more base now whole t0 t1 w0 w1 before end =
     let all = heard-all whole before.rest before.done before.heard end.0 in
-    (end.1, subst (λ t. Answered base (lines whole) t0 t w0 w1) (sym told) (subst (λ ls. Answered base ls t0 t1 w0 w1) (sym all) (progress-answered base now before.done t0 t1 w0 w1 before.progress)))
+    (end.1, subst (λ ls. AnsweredAll base now ls t0 t1 w0 w1) (sym all) (come-all reader left base now whole t0 t1 w0 w1 before))
 
 -- the source failed, or the reader may take no more
-pub come-part : (reader reader' : LineReader) (left more : List ℕ) (base now : Universe) (whole : List ℕ) (t0 t1 t2 w0 w1 : Option (List ℕ)) → (before : Come reader left base now whole t0 t1 w0 w1) → t2 ≡ t1 → Sees reader' more before.rest → Lacks 10 (kept reader')
-    → AnsweredPart base whole more t0 t2 w0 w1
-come-part reader reader' left more base now whole t0 t1 t2 w0 w1 before told sees free =
+pub come-part : (reader reader' : LineReader) (left more : List ℕ) (base now : Universe) (whole : List ℕ) (t0 t1 w0 w1 : Option (List ℕ)) → (before : Come reader left base now whole t0 t1 w0 w1) → Sees reader' more before.rest → Lacks 10 (kept reader')
+    → AnsweredPart base now whole more t0 t1 w0 w1
+come-part reader reader' left more base now whole t0 t1 w0 w1 before sees free =
     let rest = pends reader' more before.rest sees free in
     record {
       said = before.heard.said;
       pending = rest.pending;
       parts = before.heard.parts ∙ ap (λ r. before.heard.said ++ r) rest.parts;
       unbroken = rest.unbroken;
-      answered = subst (λ t. Answered base (lines before.heard.said) t0 t w0 w1) (sym told) (subst (λ ls. Answered base ls t0 t1 w0 w1) (sym before.heard.lines_said) (progress-answered base now before.done t0 t1 w0 w1 before.progress));
-    }
-
--- memory ran out, and the clock may have told a reading
-pub come-stopped : (reader : LineReader) (left : List ℕ) (base now : Universe) (whole : List ℕ) (t0 t1 t2 w0 w1 : Option (List ℕ)) → Come reader left base now whole t0 t1 w0 w1 → TellsAtMostOne t1 t2 → BrokeOff base (lines whole) t0 t2 w0 w1
-come-stopped reader left base now whole t0 t1 t2 w0 w1 before one_more =
-    let progress = before.progress in
-    let enough : length progress.bytes ≤ length progress.bytes = omega arith in
-    record {
-      taken_lines = before.done;
-      rest = lines before.rest;
-      parts = heard-lines whole before.rest before.done before.heard;
-      history = progress.history;
-      readings = progress.readings;
-      extra = one_more.readings;
-      bytes = progress.bytes;
-      legal = progress.stands.legal;
-      talk = told-all base progress.history before.done progress.readings progress.bytes progress.told;
-      few = one_more.few;
-      tells = tells-all t0 t1 t2 progress.readings one_more.readings progress.tells one_more.tells;
-      count = length progress.bytes;
-      wrote = subst (Appends w0 w1) (sym (take_all (length progress.bytes) progress.bytes enough)) progress.wrote;
+      all = subst (λ ls. AnsweredAll base now ls t0 t1 w0 w1) (sym before.heard.lines_said) (come-all reader left base now whole t0 t1 w0 w1 before);
     }
 
 -- the sink took a front of an answer
 pub come-broken : (reader reader' : LineReader) (left more : List ℕ) (base now next : Universe) (whole answer : List ℕ) (count : ℕ) (t0 t1 t2 w0 w1 w2 : Option (List ℕ)) → (before : Come reader left base now whole t0 t1 w0 w1)
-    → (line : List ℕ) × (Follows reader' more before.rest line × Turns now next t1 t2 line answer) → Appends w1 w2 (take count answer) → BrokeOff base (lines whole) t0 t2 w0 w2
-come-broken reader reader' left more base now next whole answer count t0 t1 t2 w0 w1 w2 before (line, (follows, turn)) wrote =
-    let progress = before.progress in
-    let came = after-turn base now next before.done line answer t0 t1 t2 w0 w1 progress turn in
-    let heard = heard-line whole before.rest line more before.done reader' before.heard follows in
+    → Goes reader' more before.rest now next t1 t2 answer → Appends w1 w2 (take count answer) → BrokeOff base next (lines whole) t0 t2 w0 w2
+come-broken reader reader' left more base now next whole answer count t0 t1 t2 w0 w1 w2 before goes wrote =
+    let heard = heard-line whole before.rest goes.line more before.done reader' before.heard goes.follows in
+    let done = before.done ++ goes.line ∷ [] in
     record {
-      taken_lines = before.done ++ line ∷ [];
-      rest = lines follows.rest;
-      parts = heard-lines whole follows.rest (before.done ++ line ∷ []) heard;
-      history = came.history;
-      readings = came.readings;
-      extra = [];
-      bytes = progress.bytes ++ answer;
-      legal = came.stands.legal;
-      talk = told-all base came.history (before.done ++ line ∷ []) came.readings (progress.bytes ++ answer) came.told;
-      few = omega arith;
-      tells = subst (TellsReadings t0 t2) (sym (append-nil came.readings)) came.tells;
-      count = length progress.bytes + count;
-      wrote = subst (Appends w0 w2) (sym (take-append-add progress.bytes answer count)) (Appends-trans w0 w1 w2 progress.bytes (take count answer) progress.wrote wrote);
+      taken_lines = done;
+      rest = lines goes.follows.rest;
+      parts = heard-lines whole goes.follows.rest done heard;
+      bytes = before.bytes ++ answer;
+      answered = progress-answered base next done t0 t2 (before.bytes ++ answer) (progress-turn base now before.done goes.line t0 t1 t2 before.bytes before.progress next goes.turn.0 answer goes.turn.1 goes.turn.2);
+      count = length before.bytes + count;
+      wrote = subst (Appends w0 w2) (sym (take-append-add before.bytes answer count)) (Appends-trans w0 w1 w2 before.bytes (take count answer) before.wrote wrote);
     }
 
--- a line takes at most one number
-pub turn-number : (now next : Universe) (t0 t1 : Option (List ℕ)) (line answer : List ℕ) → Turns now next t0 t1 line answer → next.number ≤ now.number + 1
-turn-number now next t0 t1 line answer (inl over) = let same = ap (λ (u : Universe). u.number) over.1.unasked in omega (arith, same)
-turn-number now next t0 t1 line answer (inr (inl bad)) = let same = ap (λ (u : Universe). u.number) bad.2.unasked in omega (arith, same)
-turn-number now next t0 t1 line answer (inr (inr called)) = let more = asked-number now next called.call.player called.call.req called.reading called.answer called.asked in omega (arith, more)
-
 -- a line that spells a call of a form that isn't built asks for nothing
-pub asks_nothing : (line : List ℕ) (call : Call) → Spells true line call → (IsBuilt call.req → ⊥) → AsksNothing line
-asks_nothing line call spells unbuilt other asks = unbuilt (subst (λ (c : Call). IsBuilt c.req) (one_call true line other call asks.spells spells) asks.built)
+pub unbuilt : (line : List ℕ) (call : Call) → Spells true line call → (IsBuilt call.req → ⊥) → AsksNothing line
+unbuilt line call spells no_form other asks = no_form (subst (λ (c : Call). IsBuilt c.req) (one_call true line other call asks.spells spells) asks.built)
 
--- a call makes the clock tell one reading at most
-pub came-few : (named : Option ℕ) (reading : ℕ) (t0 t1 : Option (List ℕ)) → CameAt named reading t0 t1 → TellsAtMostOne t0 t1
-came-few (Some named) reading t0 t1 came = record { readings = []; few = omega arith; tells = subst (λ t. TellsReadings t0 t []) (sym came.1) (tells-none t0) }
-came-few None reading t0 t1 came = record { readings = reading ∷ []; few = omega arith; tells = tells-more t0 t0 t1 [] reading (tells-none t0) came }
+-- one reading was told
+pub tells-one : (t0 t1 : Option (List ℕ)) (reading : ℕ) → TellsReading t0 t1 reading → TellsReadings t0 t1 (reading ∷ [])
+tells-one t0 None reading told = tt
+tells-one None (Some after) reading told = told
+tells-one (Some before) (Some after) reading told = told
 
--- no reading was told
-pub told-few : (t : Option (List ℕ)) → TellsAtMostOne t t
-told-few t = record { readings = []; few = omega arith; tells = tells-none t }
+-- what a call takes from the clock that names its reading, and one that names none
+pub came_named : (named : ℕ) (t : Option (List ℕ)) → (taken : List ℕ) × CameAt (Some named) named taken × TellsReadings t t taken
+came_named named t = ([], (refl, refl), tells-none t)
 
--- what holds anyway holds where a call failed
-pub on_err : {T E : Type 0} (result : Result T E) {P : Type 0} → P → OnErr result P
-on_err (Ok x) holds = tt
-on_err (Err e) holds = holds
+pub came_unnamed : (reading : ℕ) (t0 t1 : Option (List ℕ)) → TellsReading t0 t1 reading → (taken : List ℕ) × CameAt None reading taken × TellsReadings t0 t1 taken
+came_unnamed reading t0 t1 told = (reading ∷ [], refl, tells-one t0 t1 reading told)
+
+pub ruleset readings = (came_named, came_unnamed)
+
+-- two words and what follows have two bytes at least, if the first has one
+words_long : (first second : List ℕ) (more : List (List ℕ)) → 1 ≤ length first → 2 ≤ length (join_with_byte 32 (first ∷ second ∷ more))
+words_long first second more some = let all = length-append first (32 ∷ join_with_byte 32 (second ∷ more)) in omega (arith, all, some)
+
+player_some : (player : Player) → 1 ≤ length (player_text player)
+player_some player = let some = decimal_nonempty player.k in omega (arith, some)
+
+call_long : (named : Option ℕ) (player : Player) (req : Request) → 2 ≤ length (join_with_byte 32 (timed_words named (player_text player ∷ request_words req)))
+call_long None player req = words_long (player_text player) (form_word (form_of req)) (argument_words req) (player_some player)
+call_long (Some reading) player req = words_long (64 ∷ decimal reading) (player_text player) (request_words req) (omega arith)
+
+-- a line that asks for something has two bytes at least: a player's digit and a space
+pub two_bytes : (line : List ℕ) (call : Call) → AsksFor line call → 2 ≤ length line
+two_bytes line call asks =
+    let joined : line ≡ join_with_byte 32 (timed_words call.reading (player_text call.player ∷ request_words call.req)) = sym (join-parts 32 line) ∙ ap (join_with_byte 32) asks.spells.same in
+    subst (λ l. 2 ≤ length l) (sym joined) (call_long call.reading call.player call.req)
+
+-- a reader that stopped sees what it saw, and keeps no line feed
+pub stop_stays : (stop : Stop) (old : LineReader) (left : List ℕ) (new : LineReader) (more : List ℕ) → Tells old left new more (stop_of stop) → Stays old left new more
+stop_stays Fault old left new more tells = tells
+stop_stays Spent old left new more tells = tells
+
+pub stop_lacks : (stop : Stop) (new : LineReader) → Leaves new (stop_of stop) → Lacks 10 (kept new)
+stop_lacks Fault new leaves = leaves.2
+stop_lacks Spent new leaves = leaves.3
+
+-- the line for which an answer of a reader stands
+pub told_line : (told : ToldLine) (old : LineReader) (left : List ℕ) (new : LineReader) (more : List ℕ) → Tells old left new more (line_of (Some told)) → Leaves new (line_of (Some told))
+    → (text : List ℕ) → Sees old left text → (line : List ℕ) × Follows new more text line × IsTold new told line
+told_line (Text n) old left new more tells leaves text sees =
+    let count = leaves.0 in
+    let short = leaves.1 in
+    (answered_line new, tells text sees, (refl, omega (arith, count, short)))
+told_line Long old left new more tells leaves text sees =
+    let found = tells text sees in
+    (found.0, found.2, found.1)
+
+-- it brings the reader nearer to its end by its bytes, and by one at least
+pub told_nearer : (told : ToldLine) (new : LineReader) (before after : ℕ) → Leaves new (line_of (Some told)) → after + advance (line_of (Some told)) ≤ before
+    → (after + length (answered_line new) ≤ before) × (after < before) × (length (answered_line new) ≤ LONGEST_LINE)
+told_nearer (Text n) new before after leaves nears =
+    let count = leaves.0 in
+    let short = leaves.1 in
+    (omega (arith, count, nears), omega (arith, nears), omega (arith, count, short))
+told_nearer Long new before after leaves nears =
+    let none = ap length leaves in
+    (omega (arith, none, nears), omega (arith, nears), omega (arith, none))
+
+-- a line is no failure
+pub told_unfailed : (told : ToldLine) → line_of (Some told) ≡ L.Fault → ⊥
+told_unfailed (Text n) is = cc is
+told_unfailed Long is = cc is

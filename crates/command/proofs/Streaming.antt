@@ -2,6 +2,7 @@
 use Rattle.std.proofs.Common.{◌≡◌, ℕ, ◌-◌, ◌≤◌, ◌<◌, List, [], ◌∷◌, get_or, ◌++◌, length, take, drop, arith, ap, ◌∙◌, sym, append_assoc}
 use Rattle.std.proofs.lemmas.List.{take_all, take-append-drop, length-drop}
 use Rattle.std.proofs.Math.Seq.{take-append_seam}
+use Rattle.std.specs.Prelude.{Result, Ok, Err, OnErr}
 
 enough : (rest : List ℕ) (n : ℕ) → length (drop n rest) ≤ length rest - n
 enough rest n = let left = length-drop n rest in omega (arith, left)
@@ -20,3 +21,8 @@ pub one_item : {A : Type 0} (xs : List A) (x : A) → 1 ≤ length xs → length
 one_item [] x least most is = absurd (omega (arith, least))
 one_item (y ∷ []) x least most is = ap (λ z. z ∷ []) (sym is)
 one_item (y ∷ z ∷ more) x least most is = absurd (omega (arith, most))
+
+-- what holds anyway holds where a call failed
+pub on_err : {T E : Type 0} (result : Result T E) {P : Type 0} → P → OnErr result P
+on_err (Ok x) holds = tt
+on_err (Err e) holds = holds

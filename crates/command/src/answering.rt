@@ -1,29 +1,31 @@
-ghost use Rattle.std.specs.Prelude.{◌≡◌, ◌+◌, ◌≤◌, ◌<◌, ◌^◌, ◌⊎◌, ℕ, List, [], length, MatchOption, OnOk, OnErr};
+ghost use Rattle.std.specs.Prelude.{◌≡◌, ◌+◌, ◌*◌, ◌≤◌, ◌<◌, ◌⊎◌, ℕ, List, [], length, MatchOption, OnOk, OnErr, IsErrOf};
 ghost use Rattle.std.specs.Str.Lines.{lines as text_lines};
-ghost use Rattle.ports.specs.Causes.{Rose};
-ghost use Rattle.request_text.specs.LineReading.{Known, Sees, ahead, taken};
+ghost use Rattle.base_ids.specs.declared.numbers.TheConstants.{LAST_NUMBER};
+ghost use Rattle.ports.specs.Readings.{TellsReadings};
+ghost use Rattle.ports.specs.declared.clock.TheConstants.{LATEST};
+ghost use Rattle.reply_text.specs.Heads.{text};
+ghost use Rattle.request_text.specs.LineReading.{Known, Sees, advance, ahead, answered_line, line_of, taken};
+ghost use Rattle.request_text.specs.declared.line_reader.TheConstants.{LONGEST_LINE, MOST_TAKEN};
 ghost use Rattle.request_text.specs.declared.call.Call.{Call};
-ghost use Rattle.command.specs.Answers.{Answered, AnsweredPart, BrokeOff, CameAt, Goes, HasReason, IsNearer, TellsAtMostOne, ToldAtEnd, Turns};
+ghost use Rattle.command.specs.Answers.{AnsweredAll, AnsweredPart, BrokeOff, IsTold, Turns, answer_text};
+ghost use Rattle.command.specs.Statuses.{HasReason, status_of};
 ghost use Rattle.tick_model.specs.Strict.{universe_of};
-ghost use Rattle.tick_model.specs.Talk.{AsksFor, AsksNothing};
+ghost use Rattle.tick_model.specs.Talk.{AsksFor, AsksNothing, CameAt};
 
-use crate::asking::ask;
-use crate::status::{DONE, NO_MEMORY, SINK_FAULT, SOURCE_FAULT, TOO_LONG};
+use crate::asking::answer;
+use crate::status::Stopped;
 use crate::streams::write_all;
 use base_text::Bytes;
 use ports::{Clock, Sink, Source};
-use reply_text::write_reply;
-use request_text::{Call, Line, LineReader};
-use std::alloc::{AllocError, Global};
+use request_text::{Call, LineReader, Told};
+use std::alloc::Global;
 use tick_model::{StrictUniverse, is_built};
 
-/// What a line asks for. `None` exactly where it asks for nothing.
+/// What a line asks for. `None` exactly if it asks for nothing.
 fn asked_for(line: &[u8]) -> Option<Call>
     ensures { MatchOption result (AsksNothing line.now) (AsksFor line.now) }
 {
-    let Some(call) = Call::read(line, true) else {
-        return None;
-    };
+    let call = Call::read(line, true)?;
     if !is_built(&call.req) {
         return None;
     }
@@ -31,9 +33,10 @@ fn asked_for(line: &[u8]) -> Option<Call>
 }
 
 /// The reading at which a call came: the one that it names, else the clock's.
+#[tactic(auto, using(crate::proofs::Progress::readings))]
 fn reading_of<C: Clock>(call: &Call, clock: &mut C) -> u64
-    ensures range { result < 2 ^ 40 }
-    ensures came { CameAt call.now.reading result (C.told clock.old) (C.told clock.new) }
+    ensures range { result ≤ LATEST }
+    ensures came { (taken : List ℕ) × CameAt call.now.reading result taken × TellsReadings (C.told clock.old) (C.told clock.new) taken }
 {
     match call.reading {
         Some(reading) => reading,
@@ -41,87 +44,82 @@ fn reading_of<C: Clock>(call: &Call, clock: &mut C) -> u64
     }
 }
 
-/// Makes `out` the answer to a line of at most 400 bytes. Where memory runs out, the clock may have told a reading.
+/// What a line is answered.
+#[derive(Clone, Copy)]
+pub enum Answer {
+    /// It asks for nothing.
+    Bad,
+    /// It is too long.
+    Long,
+    /// Its request found no memory.
+    Memory,
+    /// It has a reply.
+    Reply,
+}
+
+/// The bytes of an answer, if `reply` has the text of the reply. They take no memory.
+#[tactic(auto, unfolding(reply_text::specs::Words::line))]
+fn bytes_of(answer: Answer, reply: &Bytes) -> &[u8]
+    ensures { result.now ≡ answer_text answer reply.now }
+{
+    match answer {
+        Answer::Bad => b"bad 1\n",
+        Answer::Long => b"bad 2\n",
+        Answer::Memory => b"memory\n",
+        Answer::Reply => reply.as_slice(),
+    }
+}
+
+/// Answers a line of at most 400 bytes. If it has a reply, `reply` becomes the text of that.
 fn answer_line<C: Clock>(
     alloc: Global,
     universe: &mut StrictUniverse,
     clock: &mut C,
     line: &[u8],
-    out: &mut Bytes,
-) -> Result<(), AllocError>
-    requires short { length line.now ≤ 400 }
-    requires number { universe.old.number < 2 ^ 40 }
-    ensures turns { OnOk result (Turns (universe_of universe.old) (universe_of universe.new) (C.told clock.old) (C.told clock.new)
-        line.now out.new) }
-    ensures told { OnErr result (TellsAtMostOne (C.told clock.old) (C.told clock.new)) }
-    ensures number { universe.new.number ≤ universe.old.number + 1 }
+    reply: &mut Bytes,
+) -> Answer
+    requires short { length line.now ≤ LONGEST_LINE }
+    requires number { universe.old.number < LAST_NUMBER }
+    ensures turns { Turns (universe_of universe.old) (universe_of universe.new) (C.told clock.old) (C.told clock.new)
+        line.now (answer_text result reply.new) }
+    ensures number { 2 * universe.new.number ≤ 2 * universe.old.number + length line.now }
 {
-    out.clear();
     let Some(call) = asked_for(line) else {
-        out.push_line(b"bad 1")?;
-        return Ok(());
+        return Answer::Bad;
     };
     let reading = reading_of(&call, clock);
-    let reply = ask(alloc, universe, call.player, &call.req, reading)?;
-    write_reply(out, &reply)?;
-    Ok(())
+    match answer(alloc, universe, call.player, &call.req, reading, reply) {
+        Ok(()) => Answer::Reply,
+        Err(_) => Answer::Memory,
+    }
 }
 
-/// What came of the next line: it was answered, no line is left, the source failed, the reader may take no more bytes, or memory
-/// ran out.
-#[derive(Clone, Copy)]
-pub enum Next {
-    Answered,
-    End,
-    Fault,
-    Spent,
-    Memory,
-}
-
-/// Reads the next line, and makes `out` its answer.
-fn answer_next<S: Source, C: Clock>(
+/// Answers the line that a reader told.
+fn answer_told<C: Clock>(
     alloc: Global,
     universe: &mut StrictUniverse,
-    lines: &mut LineReader,
-    source: &mut S,
     clock: &mut C,
-    out: &mut Bytes,
-) -> Next
-    requires room { universe.old.number + ahead lines.old ≤ 2 ^ 40 }
-    ensures goes { Known (S.left source.old) (S.left source.new) (λ left more.
-        Goes lines.old left lines.new more (universe_of universe.old) (universe_of universe.new) (C.told clock.old) (C.told clock.new)
-        out.new result) }
-    ensures told { ToldAtEnd (C.told clock.old) (C.told clock.new) result }
-    ensures nearer { IsNearer (ahead lines.old) (ahead lines.new) result }
-    ensures reason { HasReason (S.faults source.old) (S.faults source.new) lines.new result }
-    ensures faults { S.faults source.old ≤ S.faults source.new }
-    ensures counts { Known (S.left source.old) (S.left source.new)
-        (λ left more. taken lines.new + length more ≡ taken lines.old + length left) }
-    ensures number { universe.new.number ≤ universe.old.number + 1 }
+    lines: &LineReader,
+    told: Told,
+    reply: &mut Bytes,
+) -> Answer
+    requires short { length (answered_line lines.now) ≤ LONGEST_LINE }
+    requires number { universe.old.number < LAST_NUMBER }
+    ensures turns { (line : List ℕ) → IsTold lines.now told line → Turns (universe_of universe.old) (universe_of universe.new)
+        (C.told clock.old) (C.told clock.new) line (answer_text result reply.new) }
+    ensures number { 2 * universe.new.number ≤ 2 * universe.old.number + length (answered_line lines.now) }
 {
-    match lines.next(source) {
-        Line::Text(_) => match answer_line(alloc, universe, clock, lines.line(), out) {
-            Ok(()) => Next::Answered,
-            Err(_) => Next::Memory,
-        },
-        Line::Long => {
-            out.clear();
-            match out.push_line(b"bad 2") {
-                Ok(()) => Next::Answered,
-                Err(_) => Next::Memory,
-            }
-        }
-        Line::End => Next::End,
-        Line::Fault => Next::Fault,
-        Line::Spent => Next::Spent,
+    match told {
+        Told::Text(_) => answer_line(alloc, universe, clock, lines.line(), reply),
+        Told::Long => Answer::Long,
     }
 }
 
 /// Answers each line of a script, and hands each answer to the sink in one piece.
 ///
-/// `DONE` where the source was read to its end and all lines were answered. `SOURCE_FAULT` only where the source failed, and
-/// `TOO_LONG` where as many bytes were taken as a reader may take: then all whole lines that were taken are answered.
-/// `SINK_FAULT` only where the sink failed; else `NO_MEMORY`.
+/// It ends well if the source was read to its end and all lines were answered. If the source failed, or as many bytes were taken as
+/// a reader may take, all whole lines that were taken are answered. Else the sink failed. A line whose request finds no memory is
+/// answered `memory`, and changes nothing.
 pub fn answer_lines<S: Source, K: Sink, C: Clock>(
     alloc: Global,
     universe: &mut StrictUniverse,
@@ -129,36 +127,31 @@ pub fn answer_lines<S: Source, K: Sink, C: Clock>(
     source: &mut S,
     clock: &mut C,
     sink: &mut K,
-) -> u8
-    requires room { universe.old.number + ahead lines.old ≤ 2 ^ 40 }
-    ensures statuses { (result ≡ DONE) ⊎ (result ≡ SOURCE_FAULT) ⊎ (result ≡ SINK_FAULT) ⊎ (result ≡ NO_MEMORY)
-        ⊎ (result ≡ TOO_LONG) }
-    ensures done { result ≡ DONE → Known (S.left source.old) (S.left source.new) (λ left more. (text : List ℕ)
-        → Sees lines.old left text → (more ≡ []) × Answered (universe_of universe.old) (text_lines text)
-        (C.told clock.old) (C.told clock.new) (K.written sink.old) (K.written sink.new)) }
-    ensures partly { (result ≡ SOURCE_FAULT) ⊎ (result ≡ TOO_LONG) → Known (S.left source.old) (S.left source.new)
-        (λ left more. (text : List ℕ) → Sees lines.old left text → AnsweredPart (universe_of universe.old) text more
-        (C.told clock.old) (C.told clock.new) (K.written sink.old) (K.written sink.new)) }
-    ensures broke_off { (result ≡ SINK_FAULT) ⊎ (result ≡ NO_MEMORY) → Known (S.left source.old) (S.left source.new)
-        (λ left more. (text : List ℕ) → Sees lines.old left text → BrokeOff (universe_of universe.old) (text_lines text)
-        (C.told clock.old) (C.told clock.new) (K.written sink.old) (K.written sink.new)) }
-    ensures source_fault { result ≡ SOURCE_FAULT → Rose (S.faults source.old) (S.faults source.new) }
-    ensures too_long { result ≡ TOO_LONG → taken lines.new ≡ 2 ^ 40 }
+) -> Result<(), Stopped>
+    requires room { 2 * universe.old.number + ahead lines.old ≤ MOST_TAKEN }
+    ensures ends { OnErr result (IsErrOf result Stopped.SourceFault ⊎ IsErrOf result Stopped.TooLong ⊎ IsErrOf result Stopped.SinkFault) }
+    ensures reason { HasReason (status_of result) (S.faults source.old) (S.faults source.new) (K.faults sink.old) (K.faults sink.new) }
+    ensures done { OnOk result (Known (S.left source.old) (S.left source.new) (λ left more. (text : List ℕ)
+        → Sees lines.old left text → (more ≡ []) × AnsweredAll (universe_of universe.old) (universe_of universe.new) (text_lines text)
+        (C.told clock.old) (C.told clock.new) (K.written sink.old) (K.written sink.new))) }
+    ensures partly { IsErrOf result Stopped.SourceFault ⊎ IsErrOf result Stopped.TooLong → Known (S.left source.old) (S.left source.new)
+        (λ left more. (text : List ℕ) → Sees lines.old left text → AnsweredPart (universe_of universe.old) (universe_of universe.new)
+        text more (C.told clock.old) (C.told clock.new) (K.written sink.old) (K.written sink.new)) }
+    ensures broke_off { IsErrOf result Stopped.SinkFault → Known (S.left source.old) (S.left source.new)
+        (λ left more. (text : List ℕ) → Sees lines.old left text → BrokeOff (universe_of universe.old) (universe_of universe.new)
+        (text_lines text) (C.told clock.old) (C.told clock.new) (K.written sink.old) (K.written sink.new)) }
+    ensures within { OnOk result (taken lines.new < MOST_TAKEN) }
+    ensures too_long { IsErrOf result Stopped.TooLong → taken lines.new ≡ MOST_TAKEN }
+    ensures most { taken lines.new ≤ MOST_TAKEN }
     ensures counts { Known (S.left source.old) (S.left source.new)
         (λ left more. taken lines.new + length more ≡ taken lines.old + length left) }
-    ensures sink_fault { result ≡ SINK_FAULT → Rose (K.faults sink.old) (K.faults sink.new) }
 {
-    let mut out = Bytes::new(alloc);
+    let mut reply = Bytes::new(alloc);
     'script: loop {
-        match answer_next(alloc, universe, lines, source, clock, &mut out) {
-            Next::Answered => {}
-            Next::End => return DONE,
-            Next::Fault => return SOURCE_FAULT,
-            Next::Spent => return TOO_LONG,
-            Next::Memory => return NO_MEMORY,
-        }
-        let Ok(()) = write_all(sink, out.as_slice()) else {
-            return SINK_FAULT;
+        let Some(told) = lines.next(source).told()? else {
+            return Ok(());
         };
+        let answer = answer_told(alloc, universe, clock, lines, told, &mut reply);
+        write_all(sink, bytes_of(answer, &reply))?;
     }
 }

@@ -1,16 +1,16 @@
-ghost use Rattle.std.specs.Prelude.{◌≡◌, ◌+◌, ◌^◌, ◌↔◌, ◌⊎◌, ℕ, length, map, take, string_bytes, IfOk, IsTrue};
+ghost use Rattle.std.specs.Prelude.{◌≡◌, ◌↔◌, ◌⊎◌, ℕ, map, take, string_bytes, IfOk, IsErrOf, IsTrue};
 ghost use Rattle.std.specs.Io.KnownBytes.{Appends};
 ghost use Rattle.ports.specs.Causes.{Rose};
 ghost use Rattle.request_text.specs.LineReading.{Known};
-ghost use Rattle.command.specs.Trial.{IsStatus, IsTrial, Refused, RefusedBroken, Tried, TriedBroken, TriedPart, Unfounded, bad_founding};
+ghost use Rattle.command.specs.Statuses.{HasReason, IsBounded, IsStatus, status_of};
+ghost use Rattle.command.specs.Trial.{IsTrial, Trial, bad_founding};
+ghost use Rattle.command.specs.declared.status.TheConstants.{NOT_A_COMMAND, NO_MEMORY, NOT_FOUNDED};
 
 use crate::answering::answer_lines;
-use crate::status::{
-    DONE, NO_MEMORY, NOT_A_COMMAND, NOT_FOUNDED, SINK_FAULT, SOURCE_FAULT, TOO_LONG,
-};
+use crate::status::{Stopped, exit_status};
 use crate::streams::write_all;
 use base_text::is_same;
-use founding::Founding;
+use founding::FoundingFault;
 use ports::{Clock, Sink, Source};
 use request_text::LineReader;
 use std::alloc::{AllocError, Global};
@@ -33,22 +33,19 @@ fn bad_founding_line(alloc: Global, number: u64) -> Result<String, AllocError>
     format!(in alloc; "bad founding {number}\n")
 }
 
-/// Names the first bad line of a founding text.
-fn refuse<K: Sink>(alloc: Global, number: u64, sink: &mut K) -> u8
-    ensures statuses { (result ≡ NOT_FOUNDED) ⊎ (result ≡ SINK_FAULT) ⊎ (result ≡ NO_MEMORY) }
-    ensures not_founded { result ≡ NOT_FOUNDED → Appends (K.written sink.old) (K.written sink.new) (bad_founding number) }
-    ensures broken { result ≡ SINK_FAULT → (count : ℕ)
+/// Ends a run whose founding text is bad, after it has named the first bad line.
+fn name_bad_line<K: Sink>(alloc: Global, number: u64, sink: &mut K) -> Result<(), Stopped>
+    ensures ends { IsErrOf result Stopped.NotFounded ⊎ IsErrOf result Stopped.SinkFault ⊎ IsErrOf result Stopped.NoMemory }
+    ensures named { IsErrOf result Stopped.NotFounded → Appends (K.written sink.old) (K.written sink.new) (bad_founding number) }
+    ensures broken { IsErrOf result Stopped.SinkFault → (count : ℕ)
         × Appends (K.written sink.old) (K.written sink.new) (take count (bad_founding number)) }
-    ensures sink_fault { result ≡ SINK_FAULT → Rose (K.faults sink.old) (K.faults sink.new) }
-    ensures no_memory { result ≡ NO_MEMORY → sink.new ≡ sink.old }
+    ensures sink_fault { IsErrOf result Stopped.SinkFault → Rose (K.faults sink.old) (K.faults sink.new) }
+    ensures kept { (IsErrOf result Stopped.SinkFault → ⊥) → K.faults sink.new ≡ K.faults sink.old }
+    ensures unwritten { IsErrOf result Stopped.NoMemory → sink.new ≡ sink.old }
 {
-    let Ok(text) = bad_founding_line(alloc, number) else {
-        return NO_MEMORY;
-    };
-    match write_all(sink, text.as_bytes()) {
-        Ok(()) => NOT_FOUNDED,
-        Err(_) => SINK_FAULT,
-    }
+    let text = bad_founding_line(alloc, number)?;
+    write_all(sink, text.as_bytes())?;
+    Err(Stopped::NotFounded)
 }
 
 /// Reads a founding text, and answers the lines that follow it.
@@ -57,44 +54,29 @@ fn trial<S: Source, K: Sink, C: Clock>(
     source: &mut S,
     sink: &mut K,
     clock: &mut C,
-) -> u8
-    ensures statuses { (result ≡ DONE) ⊎ (result ≡ SOURCE_FAULT) ⊎ (result ≡ SINK_FAULT) ⊎ (result ≡ NO_MEMORY)
-        ⊎ (result ≡ TOO_LONG) ⊎ (result ≡ NOT_FOUNDED) }
-    ensures done { result ≡ DONE → Known (S.left source.old) (S.left source.new) (λ text more.
-        Tried text more (C.told clock.old) (C.told clock.new) (K.written sink.old) (K.written sink.new)) }
-    ensures partly { (result ≡ SOURCE_FAULT) ⊎ (result ≡ TOO_LONG) → Known (S.left source.old) (S.left source.new) (λ text more.
-        Unfounded text more (C.told clock.old) (C.told clock.new) (K.written sink.old) (K.written sink.new)
-        ⊎ TriedPart text more (C.told clock.old) (C.told clock.new) (K.written sink.old) (K.written sink.new)) }
-    ensures broken { result ≡ SINK_FAULT → Known (S.left source.old) (S.left source.new) (λ text more.
-        TriedBroken text (C.told clock.old) (C.told clock.new) (K.written sink.old) (K.written sink.new)
-        ⊎ RefusedBroken text (K.written sink.old) (K.written sink.new)) }
-    ensures no_memory { result ≡ NO_MEMORY → (sink.new ≡ sink.old) ⊎ Known (S.left source.old) (S.left source.new) (λ text more.
-        TriedBroken text (C.told clock.old) (C.told clock.new) (K.written sink.old) (K.written sink.new)) }
-    ensures not_founded { result ≡ NOT_FOUNDED → (clock.new ≡ clock.old) × Known (S.left source.old) (S.left source.new)
-        (λ text more. Refused text (K.written sink.old) (K.written sink.new)) }
-    ensures source_fault { result ≡ SOURCE_FAULT → Rose (S.faults source.old) (S.faults source.new) }
-    ensures sink_fault { result ≡ SINK_FAULT → Rose (K.faults sink.old) (K.faults sink.new) }
-    ensures too_long { result ≡ TOO_LONG → Known (S.left source.old) (S.left source.new)
-        (λ text more. length text ≡ 2 ^ 40 + length more) }
+) -> Result<(), Stopped>
+    ensures command { IsErrOf result Stopped.NotACommand → ⊥ }
+    ensures trial { Trial (status_of result) (S.left source.old) (S.left source.new) (C.told clock.old) (C.told clock.new)
+        (K.written sink.old) (K.written sink.new) }
+    ensures unwritten { IsErrOf result Stopped.NoMemory → sink.new ≡ sink.old }
+    ensures untold { IsErrOf result Stopped.NoMemory ⊎ IsErrOf result Stopped.NotFounded → clock.new ≡ clock.old }
+    ensures reason { HasReason (status_of result) (S.faults source.old) (S.faults source.new) (K.faults sink.old) (K.faults sink.new) }
+    ensures bounded { Known (S.left source.old) (S.left source.new) (IsBounded (status_of result)) }
 {
-    let Ok(mut lines) = LineReader::new(alloc) else {
-        return NO_MEMORY;
-    };
+    let mut lines = LineReader::new(alloc)?;
     match founding::read(alloc, &mut lines, source) {
-        Founding::Founded(mut universe) => {
-            answer_lines(alloc, &mut universe, &mut lines, source, clock, sink)
-        }
-        Founding::Bad(number) => refuse(alloc, number, sink),
-        Founding::Fault => SOURCE_FAULT,
-        Founding::Spent => TOO_LONG,
-        Founding::Memory => NO_MEMORY,
+        Ok(mut universe) => answer_lines(alloc, &mut universe, &mut lines, source, clock, sink),
+        Err(FoundingFault::Bad { line }) => name_bad_line(alloc, line, sink),
+        Err(FoundingFault::ReadFault) => Err(Stopped::SourceFault),
+        Err(FoundingFault::Spent) => Err(Stopped::TooLong),
+        Err(FoundingFault::Memory) => Err(Stopped::NoMemory),
     }
 }
 
-/// Runs the command that the words spell, and answers its status.
+/// Does the command that the words spell, and returns its status.
 ///
-/// The one command is `trial`: it reads a founding text from the source, and then answers each line that follows, as soon as it
-/// was read. The clock is read once for each line that asks for something and names no reading.
+/// The one command is `trial`: it reads a founding text from the source, and then answers each line that follows. The clock is
+/// read once for each line that asks for something and names no reading.
 pub fn run<S: Source, K: Sink, C: Clock>(
     alloc: Global,
     words: &[String],
@@ -109,28 +91,18 @@ pub fn run<S: Source, K: Sink, C: Clock>(
     ensures untouched { result ≡ NOT_A_COMMAND
         → (source.new ≡ source.old) × (sink.new ≡ sink.old) × (clock.new ≡ clock.old) }
 
-    // What was read and written with each status, where the source tells its text and what is left of it.
-    ensures done { result ≡ DONE → Known (S.left source.old) (S.left source.new) (λ text more.
-        Tried text more (C.told clock.old) (C.told clock.new) (K.written sink.old) (K.written sink.new)) }
-    ensures partly { (result ≡ SOURCE_FAULT) ⊎ (result ≡ TOO_LONG) → Known (S.left source.old) (S.left source.new) (λ text more.
-        Unfounded text more (C.told clock.old) (C.told clock.new) (K.written sink.old) (K.written sink.new)
-        ⊎ TriedPart text more (C.told clock.old) (C.told clock.new) (K.written sink.old) (K.written sink.new)) }
-    ensures broken { result ≡ SINK_FAULT → Known (S.left source.old) (S.left source.new) (λ text more.
-        TriedBroken text (C.told clock.old) (C.told clock.new) (K.written sink.old) (K.written sink.new)
-        ⊎ RefusedBroken text (K.written sink.old) (K.written sink.new)) }
-    ensures no_memory { result ≡ NO_MEMORY → (sink.new ≡ sink.old) ⊎ Known (S.left source.old) (S.left source.new) (λ text more.
-        TriedBroken text (C.told clock.old) (C.told clock.new) (K.written sink.old) (K.written sink.new)) }
-    ensures not_founded { result ≡ NOT_FOUNDED → (clock.new ≡ clock.old) × Known (S.left source.old) (S.left source.new)
-        (λ text more. Refused text (K.written sink.old) (K.written sink.new)) }
+    // `trial`: what was read and written with each status, if the source tells its text and what is left of it.
+    ensures trial { IsTrial (map string_bytes words.now) → Trial result (S.left source.old) (S.left source.new)
+        (C.told clock.old) (C.told clock.new) (K.written sink.old) (K.written sink.new) }
+    ensures trial_unwritten { IsTrial (map string_bytes words.now) → result ≡ NO_MEMORY → sink.new ≡ sink.old }
+    ensures trial_untold { IsTrial (map string_bytes words.now) → (result ≡ NO_MEMORY) ⊎ (result ≡ NOT_FOUNDED) → clock.new ≡ clock.old }
 
-    // What causes each status.
-    ensures source_fault { result ≡ SOURCE_FAULT → Rose (S.faults source.old) (S.faults source.new) }
-    ensures sink_fault { result ≡ SINK_FAULT → Rose (K.faults sink.old) (K.faults sink.new) }
-    ensures too_long { result ≡ TOO_LONG → Known (S.left source.old) (S.left source.new)
-        (λ text more. length text ≡ 2 ^ 40 + length more) }
+    // Any command: what causes each status, and how much is taken of the source.
+    ensures reason { HasReason result (S.faults source.old) (S.faults source.new) (K.faults sink.old) (K.faults sink.new) }
+    ensures bounded { Known (S.left source.old) (S.left source.new) (IsBounded result) }
 {
     if !is_trial(words) {
-        return NOT_A_COMMAND;
+        return exit_status(Err(Stopped::NotACommand));
     }
-    trial(alloc, source, sink, clock)
+    exit_status(trial(alloc, source, sink, clock))
 }

@@ -9,8 +9,11 @@ mod streams;
 #[cfg(test)]
 mod tests;
 
-pub use answering::{Next, answer_lines};
-pub use asking::ask;
+pub use answering::{Answer, answer_lines};
+pub use asking::answer;
 pub use commands::run;
-pub use status::{DONE, NO_MEMORY, NOT_A_COMMAND, NOT_FOUNDED, SINK_FAULT, SOURCE_FAULT, TOO_LONG};
+pub use status::{
+    DONE, NO_MEMORY, NOT_A_COMMAND, NOT_FOUNDED, SINK_FAULT, SOURCE_FAULT, Stopped, TOO_LONG,
+    exit_status,
+};
 pub use streams::write_all;

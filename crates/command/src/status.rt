@@ -1,3 +1,11 @@
+ghost use Rattle.std.specs.Prelude.{◌≡◌};
+ghost use Rattle.command.specs.Statuses.{number_of, status_of, stopped_at};
+ghost use Rattle.command.specs.declared.status.Stopped.TheVariants.{NoMemory as OutOfMemory, SinkFault as AtSink};
+
+use ports::Failed;
+use request_text::Stop;
+use std::alloc::AllocError;
+
 /// The command was done.
 pub const DONE: u8 = 0;
 
@@ -10,11 +18,64 @@ pub const SOURCE_FAULT: u8 = 4;
 /// The sink failed.
 pub const SINK_FAULT: u8 = 5;
 
-/// Memory ran out.
+/// Out of memory, outside a request.
 pub const NO_MEMORY: u8 = 7;
 
-/// As many bytes were taken from the source as may be, 2^40, and no end was seen.
+/// As many bytes were taken from the source as a run may take, 2^40, and no end was seen.
 pub const TOO_LONG: u8 = 9;
 
 /// The input does not begin with a founding text.
 pub const NOT_FOUNDED: u8 = 11;
+
+/// Why a run ends before its command is done.
+#[derive(Clone, Copy, Debug, PartialEq, Eq)]
+pub enum Stopped {
+    NotACommand,
+    SourceFault,
+    SinkFault,
+    NoMemory,
+    TooLong,
+    NotFounded,
+}
+
+impl From<Stop> for Stopped {
+    ghost from_gives = { λ stop stopped. stopped ≡ stopped_at stop };
+
+    fn from(stop: Stop) -> Stopped {
+        match stop {
+            Stop::Fault => Stopped::SourceFault,
+            Stop::Spent => Stopped::TooLong,
+        }
+    }
+}
+
+impl From<Failed> for Stopped {
+    ghost from_gives = { λ _ stopped. stopped ≡ AtSink };
+
+    fn from(_: Failed) -> Stopped {
+        Stopped::SinkFault
+    }
+}
+
+impl From<AllocError> for Stopped {
+    ghost from_gives = { λ _ stopped. stopped ≡ OutOfMemory };
+
+    fn from(_: AllocError) -> Stopped {
+        Stopped::NoMemory
+    }
+}
+
+/// The status of a run that ended so.
+pub fn exit_status(ended: Result<(), Stopped>) -> u8
+    ensures { result ≡ status_of ended }
+{
+    match ended {
+        Ok(()) => DONE,
+        Err(Stopped::NotACommand) => NOT_A_COMMAND,
+        Err(Stopped::SourceFault) => SOURCE_FAULT,
+        Err(Stopped::SinkFault) => SINK_FAULT,
+        Err(Stopped::NoMemory) => NO_MEMORY,
+        Err(Stopped::TooLong) => TOO_LONG,
+        Err(Stopped::NotFounded) => NOT_FOUNDED,
+    }
+}

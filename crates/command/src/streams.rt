@@ -4,8 +4,7 @@ ghost use Rattle.ports.specs.Causes.{HasCause};
 
 use ports::{Failed, Sink};
 
-/// Writes all the bytes, in one call where the sink takes them at once. Where the sink fails it has taken a
-/// front of them.
+/// Writes all the bytes, in one call if the sink takes them at once. If the sink fails, it has taken a front of them.
 pub fn write_all<K: Sink>(sink: &mut K, bytes: &[u8]) -> Result<(), Failed>
     ensures all { OnOk result (Appends (K.written sink.old) (K.written sink.new) bytes.now) }
     ensures front { OnErr result
@@ -14,10 +13,8 @@ pub fn write_all<K: Sink>(sink: &mut K, bytes: &[u8]) -> Result<(), Failed>
 {
     let mut rest = bytes;
     'pieces: while !rest.is_empty() {
-        match sink.write(rest) {
-            Ok(count) => rest = &rest[count..],
-            Err(_) => return Err(Failed),
-        }
+        let count = sink.write(rest)?;
+        rest = &rest[count..];
     }
     Ok(())
 }

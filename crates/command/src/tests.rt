@@ -1,9 +1,13 @@
-use crate::{DONE, NOT_A_COMMAND, NOT_FOUNDED, SINK_FAULT, SOURCE_FAULT, ask, run};
+ghost use Rattle.std.specs.Prelude.{None};
+
+use crate::{DONE, NOT_A_COMMAND, NOT_FOUNDED, SINK_FAULT, SOURCE_FAULT, answer, run};
 use base_ids::{Coord, Player};
-use founding::Founding;
-use ports::{MemoryClock, MemorySink, MemorySource};
+use base_text::Bytes;
+use ports::{Failed, MemoryClock, MemorySink, MemorySource, Sink, Source};
+use reply_text::write_reply;
 use request_text::{LineReader, Request};
 use std::alloc::{AllocError, Global};
+use std::cell::Cell;
 use std::test::Fail;
 use tick_model::StrictUniverse;
 
@@ -360,10 +364,7 @@ fn bytes_come_and_go_in_pieces_of_any_size(rt: HostRuntime) -> Result<(), Fail> 
 fn fresh(alloc: Global) -> Result<StrictUniverse, Fail> {
     let mut lines = LineReader::new(alloc)?;
     let mut source = MemorySource::new(FOUNDING, &[]);
-    match founding::read(alloc, &mut lines, &mut source) {
-        Founding::Founded(universe) => Ok(universe),
-        _ => Err(Fail::from("not founded")),
-    }
+    Ok(founding::read(alloc, &mut lines, &mut source)?)
 }
 
 #[test]
@@ -371,6 +372,7 @@ fn the_closed_form_answers_as_the_universe_that_ticks(rt: HostRuntime) -> Result
     let alloc = rt.alloc();
     let mut fast = fresh(alloc)?;
     let mut ticking = fresh(alloc)?;
+    let mut quick = Bytes::new(alloc);
     let here = Coord { g: 1, s: 1, p: 1 };
     let there = Coord { g: 1, s: 1, p: 2 };
     let calls = [
@@ -387,13 +389,97 @@ fn the_closed_form_answers_as_the_universe_that_ticks(rt: HostRuntime) -> Result
         assert!(rt; fast.number < 1000 && ticking.number < 1000);
         let player = Player { k };
         let req = Request::Planet(at);
-        let quick = ask(alloc, &mut fast, player, &req, reading)?;
-        let slow = tick_model::ask(alloc, &mut ticking, player, &req, reading)?;
-        assert_eq!(rt; quick.number, slow.number);
-        assert_eq!(rt; quick.moment, slow.moment);
-        assert_eq!(rt; quick.code, slow.code);
-        assert!(rt; quick.body == slow.body);
-        assert_eq!(rt; fast.moment, ticking.moment);
+        answer(alloc, &mut fast, player, &req, reading, &mut quick)?;
+        let reply = tick_model::ask(alloc, &mut ticking, player, &req, reading)?;
+        let mut slow = Bytes::new(alloc);
+        write_reply(&mut slow, &reply)?;
+        assert!(rt; quick == slow);
+        assert_eq!(rt; (fast.number, fast.moment), (reply.number, reply.moment));
     }
+    Ok(())
+}
+
+#[test]
+fn two_hundred_thousand_requests_are_answered(rt: HostRuntime) -> Result<(), Fail> {
+    let alloc = rt.alloc();
+    let mut script = Vec::new(alloc);
+    for second in 1..200_001u32 {
+        let line = format!(in alloc; "@{second} 2 planet 1:1:1\n")?;
+        script.extend_from_slice(line.as_bytes())?;
+    }
+    let (status, sink) = answers_to(alloc, &script)?;
+    assert_eq!(rt; status, DONE);
+    assert!(rt;
+        sink.written()
+            .ends_with(b"no 199999 199999 1\nno 200000 200000 1\n")
+    );
+    Ok(())
+}
+
+/// An input in pieces. It gives one piece a read, and only after as many answers as the piece names; else the read fails.
+#[derive(Drop)]
+struct InTurn<'a> {
+    pieces: &'a [(&'a [u8], u64)],
+    answers: &'a Cell<u64>,
+    faults: u64,
+}
+
+impl Source for InTurn<'_> {
+    ghost left = { λ _. None };
+
+    ghost faults = { λ s. s.faults };
+
+    fn read(&mut self, into: &mut [u8]) -> Result<usize, Failed> {
+        let [(piece, due), rest @ ..] = self.pieces else {
+            return Ok(0);
+        };
+        if self.answers.get() < *due || into.len() < piece.len() {
+            self.faults = self.faults.saturating_add(1);
+            return Err(Failed);
+        }
+        into[..piece.len()].copy_from_slice(piece);
+        self.pieces = rest;
+        Ok(piece.len())
+    }
+}
+
+/// It counts the pieces that it is handed.
+#[derive(Drop)]
+struct Counting<'a> {
+    answers: &'a Cell<u64>,
+}
+
+impl Sink for Counting<'_> {
+    ghost written = { λ _. None };
+
+    ghost faults = { λ _. 0 };
+
+    fn write(&mut self, from: &[u8]) -> Result<usize, Failed> {
+        self.answers.set(self.answers.get().saturating_add(1));
+        Ok(from.len())
+    }
+}
+
+#[test]
+fn each_line_is_answered_before_the_next_is_read(rt: HostRuntime) -> Result<(), Fail> {
+    let alloc = rt.alloc();
+    let answers = Cell::new(0);
+    let pieces: [(&[u8], u64); 5] = [
+        (FOUNDING, 0),
+        (b"@1 2 planet 1:1:1\n", 0),
+        (b"x\n", 1),
+        (b"@2 1 planet 1:1:1\n", 2),
+        (b"", 3),
+    ];
+    let mut source = InTurn {
+        pieces: &pieces,
+        answers: &answers,
+        faults: 0,
+    };
+    let mut sink = Counting { answers: &answers };
+    let mut clock = MemoryClock::new(&[]);
+    let words = vec![in alloc; String::from_str(alloc, "trial")?]?;
+    let status = run(alloc, &words, &mut source, &mut sink, &mut clock);
+    assert_eq!(rt; (status, answers.get()), (DONE, 3));
     Ok(())
 }

@@ -1,7 +1,9 @@
-pub mod Beginning
-pub mod Comings
-pub mod Growing
-pub mod Indexing
-pub mod Once
-pub mod Turning
 pub mod Wording
+pub mod Putting
+pub mod Mapping
+pub mod Finding
+pub mod Stepping
+pub mod Forms
+pub mod Once
+pub mod Rising
+pub mod Hearing

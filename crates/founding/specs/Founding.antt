@@ -1,76 +1,62 @@
 -- What a founding text founds, and which of its lines is the first bad one. Rule: docs/PROTOCOL.md, "The founding
 -- text".
-use Rattle.std.specs.Prelude.{◌≡◌, ◌≢◌, ◌+◌, ℕ, List, [], ◌∷◌, ◌++◌, codes, length, ◌⊎◌, ⊤}
+use Rattle.std.specs.Prelude.{◌≡◌, ◌+◌, ℕ, List, [], ◌∷◌, ◌++◌, codes, length, Option, None, Some, ⊤}
 use Rattle.std.specs.Str.Lines.{lines as text_lines}
 use Rattle.base_text.specs.Parts.{Lacks}
 use Rattle.tick_model.specs.Universe.{Universe}
-use Rattle.founding.specs.Lines.{heading_words, IsLineOf}
-use Rattle.founding.specs.Drafts.{begun, founded, AddsNothing, Drafted, Grows}
-use Rattle.founding.specs.declared.heading.Heading.{Heading}
+use Rattle.founding.specs.Drafts.{founded, Adds, AddsNothing, Drafted, Grows}
 
--- The lines grow a draft up to a line `.`, and the universe is what the draft founds; `script` are the lines after
--- the `.`.
-pub record FoundsFrom (draft : Drafted) (lines : List (List ℕ)) (universe : Universe) (script : List (List ℕ)) : Type 0 where
-  pub good : List (List ℕ)
-  pub last : Drafted
-  pub parts : lines ≡ good ++ (codes "." ∷ script)
-  pub grows : Grows draft good last
-  pub founds : universe ≡ founded last
-
--- the lines begin with a heading
-pub record IsHeaded (heading : Heading) (lines later : List (List ℕ)) : Type 0 where
-  pub first : List ℕ
-  pub spelled : IsLineOf (heading_words heading) first
-  pub parts : lines ≡ first ∷ later
-
--- The lines are a founding text of this universe, and then the lines `script`.
+-- The lines are a founding text of this universe, and then the lines `script`: a heading and lines that each add
+-- something, a line `.`, and the script.
 pub record Founds (lines : List (List ℕ)) (universe : Universe) (script : List (List ℕ)) : Type 0 where
-  pub heading : Heading
-  pub later : List (List ℕ)
-  pub headed : IsHeaded heading lines later
-  pub grown : FoundsFrom (begun heading) later universe script
-
--- the lines end here, or the first of them is no `.` and adds nothing to the draft
-abbrev pub IsBadNext : Drafted → List (List ℕ) → Type 0
-IsBadNext draft [] = ⊤
-IsBadNext draft (line ∷ later) = (line ≢ codes ".") × AddsNothing draft line
-
--- line `n` is the first bad one, where the lines are counted from `from`
-pub record IsBadFrom (draft : Drafted) (from : ℕ) (lines : List (List ℕ)) (n : ℕ) : Type 0 where
   pub good : List (List ℕ)
-  pub last : Drafted
+  pub draft : Drafted
+  pub parts : lines ≡ good ++ (codes "." ∷ script)
+  pub grows : Grows None good (Some draft)
+  pub founds : universe ≡ founded draft
+
+-- the line is a `.` that ends a text: a heading stands before it
+abbrev pub IsEnd : Option Drafted → List ℕ → Type 0
+IsEnd None line = ⊥
+IsEnd (Some draft) line = line ≡ codes "."
+
+-- The lines end here, or the first of them is bad: it adds nothing and is no end.
+abbrev pub IsBadNext : Option Drafted → List (List ℕ) → Type 0
+IsBadNext said [] = ⊤
+IsBadNext said (line ∷ later) = (IsEnd said line → ⊥) × AddsNothing said line
+
+-- Line `n`, counted from 1, is the first bad one: each line before it adds something. If the lines end before a `.`, it
+-- is the one after the last.
+pub record IsBadAt (lines : List (List ℕ)) (n : ℕ) : Type 0 where
+  pub good : List (List ℕ)
+  pub said : Option Drafted
   pub rest : List (List ℕ)
   pub parts : lines ≡ good ++ rest
-  pub grows : Grows draft good last
-  pub bad : IsBadNext last rest
-  pub place : n ≡ from + length good
+  pub grows : Grows None good said
+  pub bad : IsBadNext said rest
+  pub place : n ≡ length good + 1
 
--- line `n` is the first bad one behind a heading
-pub record IsBadLater (lines : List (List ℕ)) (n : ℕ) : Type 0 where
-  pub heading : Heading
-  pub later : List (List ℕ)
-  pub headed : IsHeaded heading lines later
-  pub bad : IsBadFrom (begun heading) 2 later n
-
--- the lines begin with no heading
-abbrev pub IsHeadless : List (List ℕ) → Type 0
-IsHeadless lines = (heading : Heading) (later : List (List ℕ)) → IsHeaded heading lines later → ⊥
-
--- Line `n`, counted from 1, is the first bad one: the first where it is no heading, else the first that ends the
--- input before a `.` or adds nothing to what the lines before it have said.
-abbrev pub IsBadAt : List (List ℕ) → ℕ → Type 0
-IsBadAt lines n = (IsHeadless lines × (n ≡ 1)) ⊎ IsBadLater lines n
-
--- the lines are the beginning of a founding text: none, or a heading and lines that add something, one after another
-abbrev pub IsBeginning : List (List ℕ) → Type 0
-IsBeginning [] = ⊤
-IsBeginning (first ∷ good) = (heading : Heading) × (last : Drafted) × IsLineOf (heading_words heading) first × Grows (begun heading) good last
-
--- The whole lines that were taken of a text are the beginning of a founding text without its `.`, and `more` is left in
--- the source: what was taken is those lines and then a piece without a line feed.
+-- The whole lines that were taken of a text begin a founding text, whose `.` is not among them; `more` is left in the
+-- source. What was taken is those lines and then a piece without a line feed.
 pub record IsUnfinished (text more : List ℕ) : Type 0 where
-  pub said : List ℕ
+  pub taken : List ℕ
   pub pending : List ℕ
-  pub parts : text ≡ said ++ (pending ++ more)
+  pub said : Option Drafted
+  pub parts : text ≡ taken ++ (pending ++ more)
   pub unbroken : Lacks 10 pending
-  pub beginning : IsBeginning (text_lines said)
+  pub grows : Grows None (text_lines taken) said
+
+-- the line adds something that takes memory: it is one behind the heading
+abbrev pub TakesMemory : Option Drafted → List ℕ → Type 0
+TakesMemory None line = ⊥
+TakesMemory (Some draft) line = (new : Drafted) × Adds (Some draft) line new
+
+-- The lines begin a founding text, and the last one that was read adds something that takes memory; the lines `later`
+-- stand behind it.
+pub record NeedsMemory (lines later : List (List ℕ)) : Type 0 where
+  pub good : List (List ℕ)
+  pub said : Option Drafted
+  pub line : List ℕ
+  pub parts : lines ≡ good ++ (line ∷ later)
+  pub grows : Grows None good said
+  pub adds : TakesMemory said line

@@ -1,7 +1,6 @@
 pub mod Lines
 pub mod Drafts
 pub mod Founding
-pub mod Indexes
-pub mod Adding
-pub mod Turns
+pub mod DraftMaps
+pub mod Steps
 pub mod Reading

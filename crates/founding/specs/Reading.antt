@@ -1,66 +1,40 @@
 -- What comes of reading a founding text.
-use Rattle.std.specs.Prelude.{◌≡◌, ◌+◌, ◌++◌, ℕ, List, length, ⊤}
+use Rattle.std.specs.Prelude.{◌≡◌, ℕ, List}
 use Rattle.base_text.specs.Parts.{Lacks}
 use Rattle.std.specs.Str.Lines.{lines}
-use Rattle.request_text.specs.LineReading.{Sees}
+use Rattle.std.specs.declared.result.Result.{Result}
+use Rattle.std.specs.declared.result.Result.TheVariants.{Ok, Err}
+use Rattle.std.specs.declared.option.Option.{Option}
+use Rattle.request_text.specs.LineReading.{kept, Follows, Sees}
 use Rattle.request_text.specs.declared.line_reader.LineReader.{LineReader}
+use Rattle.request_text.specs.declared.line_reader.Stop.{Stop}
+use Rattle.request_text.specs.declared.line_reader.Stop.TheVariants.{Fault as AtFault, Spent as AtBound}
 use Rattle.tick_model.specs.Strict.{universe_of}
 use Rattle.tick_model.specs.declared.strict.StrictUniverse.{StrictUniverse}
-use Rattle.founding.specs.Drafts.{Drafted, Grows}
-use Rattle.founding.specs.Founding.{Founds, FoundsFrom, IsBadAt, IsBadFrom, IsUnfinished}
-use Rattle.founding.specs.declared.outcome.Founding.{Founding}
-use Rattle.founding.specs.declared.outcome.Founding.TheVariants.{Founded, Bad, Fault, Spent, Memory}
+use Rattle.founding.specs.Drafts.{Drafted}
+use Rattle.founding.specs.Founding.{Founds, IsBadAt, IsBadNext, IsUnfinished, TakesMemory, NeedsMemory}
+use Rattle.founding.specs.declared.fault.FoundingFault.{FoundingFault}
+use Rattle.founding.specs.declared.fault.FoundingFault.TheVariants.{Bad, ReadFault, Spent, Memory}
 
--- The text founds the universe, and the reader sees what stands behind the founding text; or this line of it is the
--- first bad one; or what was taken of it is the beginning of a founding text.
-abbrev pub Reads : List ℕ → LineReader → List ℕ → Founding → Type 0
-Reads text reader left (Founded universe) = (rest : List ℕ) × Founds (lines text) (universe_of universe) (lines rest) × Sees reader left rest
-Reads text reader left (Bad n) = IsBadAt (lines text) n
-Reads text reader left Fault = IsUnfinished text left
-Reads text reader left Spent = IsUnfinished text left
-Reads text reader left Memory = ⊤
+-- The text founds the universe, and the reader sees what stands behind its `.`. Or this line of it is the first bad
+-- one; or what was taken of it begins a founding text; or memory ran out at a line that adds something, and the reader
+-- sees what stands behind that line.
+abbrev pub Reads : List ℕ → LineReader → List ℕ → Result StrictUniverse FoundingFault → Type 0
+Reads text reader more (Ok universe) = (rest : List ℕ) × Founds (lines text) (universe_of universe) (lines rest) × Sees reader more rest
+Reads text reader more (Err (Bad n)) = IsBadAt (lines text) n
+Reads text reader more (Err ReadFault) = IsUnfinished text more
+Reads text reader more (Err Spent) = IsUnfinished text more
+Reads text reader more (Err Memory) = (rest : List ℕ) × NeedsMemory (lines text) (lines rest) × Sees reader more rest
 
--- the number of the line after those that a draft stands for
-abbrev pub next_number : Drafted → ℕ
-next_number draft = length draft.players + length draft.planets + 2
+-- Reading stops at the first line of a text, which has this number. The line is bad; or it was not taken whole; or it
+-- adds something, and memory ran out.
+abbrev pub Stops : Option Drafted → ℕ → List ℕ → LineReader → List ℕ → FoundingFault → Type 0
+Stops said number text reader more (Bad n) = IsBadNext said (lines text) × (n ≡ number)
+Stops said number text reader more ReadFault = Sees reader more text × Lacks 10 (kept reader)
+Stops said number text reader more Spent = Sees reader more text × Lacks 10 (kept reader)
+Stops said number text reader more Memory = (line : List ℕ) × TakesMemory said line × Follows reader more text line
 
--- the whole lines that were taken of a text grow the draft
-pub record IsUnfinishedFrom (draft : Drafted) (text more : List ℕ) : Type 0 where
-  pub said : List ℕ
-  pub pending : List ℕ
-  pub last : Drafted
-  pub parts : text ≡ said ++ (pending ++ more)
-  pub unbroken : Lacks 10 pending
-  pub grows : Grows draft (lines said) last
-
--- the same of a text behind the lines that a draft stands for
-abbrev pub Continues : Drafted → List ℕ → LineReader → List ℕ → Founding → Type 0
-Continues draft text reader left (Founded universe) = (rest : List ℕ) × FoundsFrom draft (lines text) (universe_of universe) (lines rest) × Sees reader left rest
-Continues draft text reader left (Bad n) = IsBadFrom draft (next_number draft) (lines text) n
-Continues draft text reader left Fault = IsUnfinishedFrom draft text left
-Continues draft text reader left Spent = IsUnfinishedFrom draft text left
-Continues draft text reader left Memory = ⊤
-
--- a fact of the universe, where one is founded
-abbrev pub IfFounded : Founding → (StrictUniverse → Type 0) → Type 0
-IfFounded (Founded universe) P = P universe
-IfFounded (Bad n) P = ⊤
-IfFounded Fault P = ⊤
-IfFounded Spent P = ⊤
-IfFounded Memory P = ⊤
-
--- a fact where a read failed
-abbrev pub OnFault : Founding → Type 0 → Type 0
-OnFault (Founded universe) P = ⊤
-OnFault (Bad n) P = ⊤
-OnFault Fault P = P
-OnFault Spent P = ⊤
-OnFault Memory P = ⊤
-
--- a fact where the reader may take no more
-abbrev pub OnSpent : Founding → Type 0 → Type 0
-OnSpent (Founded universe) P = ⊤
-OnSpent (Bad n) P = ⊤
-OnSpent Fault P = ⊤
-OnSpent Spent P = P
-OnSpent Memory P = ⊤
+-- the fault of a reader that stopped
+abbrev pub fault_of : Stop → FoundingFault
+fault_of AtFault = ReadFault
+fault_of AtBound = Spent

@@ -1,6 +1,14 @@
 ghost use Rattle.std.specs.Prelude.{◌≤◌, ◌<◌, ◌^◌};
+ghost use Rattle.ports.specs.declared.clock.TheConstants.{LATEST};
+ghost use Rattle.founding.specs.declared.heading.TheConstants.{MOST_REQUESTS};
 
 use tick_model::Rules;
+
+/// The most requests that the history of a universe may keep.
+pub const MOST_REQUESTS: u32 = 262144;
+
+/// The greatest speed of an economy.
+pub const GREATEST_SPEED: u32 = 100;
 
 /// What the line `universe SEED SPEED CAPACITY MOMENT` says: the rules of the universe, how many requests its
 /// history may keep, and the second at which it begins.
@@ -11,6 +19,6 @@ pub struct Heading {
     pub moment: u64,
     pub ghost seed_fits: { rules.seed < 2 ^ 64 },
     pub ghost capacity_from: { 1 ≤ capacity },
-    pub ghost capacity_to: { capacity ≤ 262144 },
-    pub ghost in_time: { moment < 2 ^ 40 },
+    pub ghost capacity_to: { capacity ≤ MOST_REQUESTS },
+    pub ghost in_time: { moment ≤ LATEST },
 }

@@ -1,23 +1,33 @@
-ghost use Rattle.std.specs.Prelude.{◌≤◌, ◌≤ℤ◌, pos, negsuc};
+ghost use Rattle.std.specs.Prelude.{◌≤◌, ◌≤ℤ◌};
+ghost use Rattle.founding.specs.declared.new_planet.TheConstants.{COLDEST, HOTTEST, MOST_FIELDS};
 
 use base_ids::{Coord, Player};
 use rates::{GRAINS, Resources};
 use tick_model::Planet;
 
+/// The least maximum temperature of a planet, in degrees.
+pub const COLDEST: i16 = -130;
+
+/// The greatest maximum temperature of a planet, in degrees.
+pub const HOTTEST: i16 = 260;
+
+/// The most fields of a planet.
+pub const MOST_FIELDS: u16 = 400;
+
 /// The units of metal and of crystal that a new planet holds.
 pub const FIRST_UNITS: u64 = 500;
 
-/// What the line `planet C K T FIELDS` says: a place, its owner, its maximum temperature in degrees, and its fields.
+/// What the line `planet C K TEMPERATURE FIELDS` says: a place, its owner, its maximum temperature in degrees, and its fields.
 #[derive(Clone, Copy, Debug)]
 pub struct NewPlanet {
     pub at: Coord,
     pub owner: Player,
     pub temperature: i16,
     pub fields: u16,
-    pub ghost coldest: { negsuc 129 ≤ℤ temperature },
-    pub ghost hottest: { temperature ≤ℤ pos 260 },
+    pub ghost coldest: { COLDEST ≤ℤ temperature },
+    pub ghost hottest: { temperature ≤ℤ HOTTEST },
     pub ghost fields_from: { 1 ≤ fields },
-    pub ghost fields_to: { fields ≤ 400 },
+    pub ghost fields_to: { fields ≤ MOST_FIELDS },
 }
 
 impl NewPlanet {

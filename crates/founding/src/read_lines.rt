@@ -5,10 +5,11 @@ ghost use Rattle.founding.specs.Lines.{heading_words, planet_words, player_words
 ghost use Rattle.founding.specs.declared.heading.Heading.{Heading};
 ghost use Rattle.founding.specs.declared.new_planet.NewPlanet.{NewPlanet};
 
-use crate::heading::Heading;
-use crate::new_planet::NewPlanet;
+use crate::heading::{GREATEST_SPEED, Heading, MOST_REQUESTS};
+use crate::new_planet::{COLDEST, HOTTEST, MOST_FIELDS, NewPlanet};
 use base_ids::Player;
 use base_text::{cut, is_same, number, positive_number, signed_number};
+use ports::LATEST;
 use request_text::{coord, player};
 use tick_model::Rules;
 
@@ -18,48 +19,30 @@ fn five_words(line: &[u8]) -> Option<(&[u8], &[u8], &[u8], &[u8], &[u8])>
         ((a b c d e : List ℕ) → words line.now ≡ a ∷ b ∷ c ∷ d ∷ e ∷ [] → ⊥)
         (λ w. words line.now ≡ w.0.now ∷ w.1.now ∷ w.2.now ∷ w.3.now ∷ w.4.now ∷ []) }
 {
-    let Some((first, rest)) = cut(line, b' ') else {
-        return None;
-    };
-    let Some((second, rest)) = cut(rest, b' ') else {
-        return None;
-    };
-    let Some((third, rest)) = cut(rest, b' ') else {
-        return None;
-    };
-    let Some((fourth, fifth)) = cut(rest, b' ') else {
-        return None;
-    };
+    let (first, rest) = cut(line, b' ')?;
+    let (second, rest) = cut(rest, b' ')?;
+    let (third, rest) = cut(rest, b' ')?;
+    let (fourth, fifth) = cut(rest, b' ')?;
     match cut(fifth, b' ') {
         Some(_) => None,
         None => Some((first, second, third, fourth, fifth)),
     }
 }
 
-/// What a line `universe SEED SPEED CAPACITY MOMENT` says. `None` exactly where the line is no such line.
+/// What a line `universe SEED SPEED CAPACITY MOMENT` says. `None` exactly if the line is no such line.
 pub fn read_heading(line: &[u8]) -> Option<Heading>
     ensures { MatchOption result
         ((h : Heading) → words line.now ≡ heading_words h → ⊥)
         (λ h. words line.now ≡ heading_words h) }
 {
-    let Some((form, seed, speed, capacity, moment)) = five_words(line) else {
-        return None;
-    };
+    let (form, seed, speed, capacity, moment) = five_words(line)?;
     if !is_same(form, b"universe") {
         return None;
     }
-    let Some(seed) = number(seed, u64::MAX) else {
-        return None;
-    };
-    let Some(speed) = positive_number(speed, 100) else {
-        return None;
-    };
-    let Some(capacity) = positive_number(capacity, 262144) else {
-        return None;
-    };
-    let Some(moment) = number(moment, (1 << 40) - 1) else {
-        return None;
-    };
+    let seed = number(seed, u64::MAX)?;
+    let speed = positive_number(speed, u64::from(GREATEST_SPEED))?;
+    let capacity = positive_number(capacity, u64::from(MOST_REQUESTS))?;
+    let moment = number(moment, LATEST)?;
     Some(Heading {
         rules: Rules {
             seed,
@@ -70,48 +53,33 @@ pub fn read_heading(line: &[u8]) -> Option<Heading>
     })
 }
 
-/// The player that a line `player K` names. `None` exactly where the line is no such line.
+/// The player that a line `player K` names. `None` exactly if the line is no such line.
 pub fn read_player(line: &[u8]) -> Option<Player>
     ensures { MatchOption result
         ((k : Player) → words line.now ≡ player_words k → ⊥)
         (λ k. words line.now ≡ player_words k) }
 {
-    let Some((form, number)) = cut(line, b' ') else {
-        return None;
-    };
+    let (form, number) = cut(line, b' ')?;
     if !is_same(form, b"player") {
         return None;
     }
-    let Some(named) = player(number) else {
-        return None;
-    };
-    Some(named)
+    player(number)
 }
 
-/// What a line `planet C K T FIELDS` says. `None` exactly where the line is no such line.
+/// What a line `planet C K TEMPERATURE FIELDS` says. `None` exactly if the line is no such line.
 pub fn read_planet(line: &[u8]) -> Option<NewPlanet>
     ensures { MatchOption result
         ((p : NewPlanet) → words line.now ≡ planet_words p → ⊥)
         (λ p. words line.now ≡ planet_words p) }
 {
-    let Some((form, place, number, temperature, fields)) = five_words(line) else {
-        return None;
-    };
+    let (form, place, number, temperature, fields) = five_words(line)?;
     if !is_same(form, b"planet") {
         return None;
     }
-    let Some(at) = coord(place) else {
-        return None;
-    };
-    let Some(owner) = player(number) else {
-        return None;
-    };
-    let Some(temperature) = signed_number(temperature, -130, 260) else {
-        return None;
-    };
-    let Some(fields) = positive_number(fields, 400) else {
-        return None;
-    };
+    let at = coord(place)?;
+    let owner = player(number)?;
+    let temperature = signed_number(temperature, COLDEST, HOTTEST)?;
+    let fields = positive_number(fields, u64::from(MOST_FIELDS))?;
     Some(NewPlanet {
         at,
         owner,

@@ -1,25 +1,36 @@
 // What no clause says: founding texts that are good, and where others are bad.
-use crate::{Draft, Founding, Heading, NewPlanet, read};
+use crate::{FoundingFault, read};
 use base_ids::{Coord, Player};
 use ports::MemorySource;
 use request_text::{Line, LineReader};
 use std::alloc::{AllocError, Global};
 use std::test::Fail;
-use tick_model::Rules;
+use tick_model::{Rules, StrictUniverse};
 
 // What comes of a text that is read in pieces.
-fn founding_of(alloc: Global, text: &[u8], failing: &[u64]) -> Result<Founding, AllocError> {
-    let mut source = MemorySource::new(text, failing).in_pieces(100);
+fn founding_of(
+    alloc: Global,
+    text: &[u8],
+) -> Result<Result<StrictUniverse, FoundingFault>, AllocError> {
+    let mut source = MemorySource::new(text, &[]).in_pieces(100);
     let mut reader = LineReader::new(alloc)?;
     Ok(read(alloc, &mut reader, &mut source))
 }
 
+// The universe that a good text founds.
+fn universe_of(alloc: Global, text: &[u8]) -> Result<StrictUniverse, Fail> {
+    match founding_of(alloc, text)? {
+        Ok(universe) => Ok(universe),
+        Err(_) => Err(Fail::from("not founded")),
+    }
+}
+
 // How many players and planets a text founds, or its first bad line.
 fn counts_of(alloc: Global, text: &[u8]) -> Result<Result<(usize, usize), u64>, Fail> {
-    match founding_of(alloc, text, &[])? {
-        Founding::Founded(universe) => Ok(Ok((universe.players.len(), universe.planets.len()))),
-        Founding::Bad(number) => Ok(Err(number)),
-        _ => Err(Fail::from("no answer")),
+    match founding_of(alloc, text)? {
+        Ok(universe) => Ok(Ok((universe.players.len(), universe.planets.len()))),
+        Err(FoundingFault::Bad { line }) => Ok(Err(line)),
+        Err(_) => Err(Fail::from("no answer")),
     }
 }
 
@@ -157,8 +168,7 @@ fn a_line_of_401_bytes_is_bad(rt: HostRuntime) -> Result<(), Fail> {
 fn the_script_stays(rt: HostRuntime) -> Result<(), Fail> {
     let mut source = MemorySource::new(b"universe 7 1 9 5\n.\n@9 1 account\n", &[]);
     let mut reader = LineReader::new(rt.alloc())?;
-    let founding = read(rt.alloc(), &mut reader, &mut source);
-    let Founding::Founded(universe) = founding else {
+    let Ok(universe) = read(rt.alloc(), &mut reader, &mut source) else {
         return Err(Fail::from("not founded"));
     };
     assert_eq!(rt; universe.moment, 5);
@@ -170,9 +180,7 @@ fn the_script_stays(rt: HostRuntime) -> Result<(), Fail> {
 #[test]
 fn a_new_planet_holds_500_units(rt: HostRuntime) -> Result<(), Fail> {
     let text = b"universe 7 3 9 5\nplayer 4\nplanet 2:33:5 4 -12 163\n.\n";
-    let Founding::Founded(universe) = founding_of(rt.alloc(), text, &[])? else {
-        return Err(Fail::from("not founded"));
-    };
+    let universe = universe_of(rt.alloc(), text)?;
     assert_eq!(rt; universe.rules, Rules { seed: 7, speed: 3 });
     assert_eq!(rt; universe.players.as_slice(), [Player { k: 4 }].as_slice());
     assert_eq!(rt; universe.planets.len(), 1);
@@ -187,11 +195,47 @@ fn a_new_planet_holds_500_units(rt: HostRuntime) -> Result<(), Fail> {
     Ok(())
 }
 
+// Five planets, each line before some line that it comes after.
+const OUT_OF_ORDER: &[u8] = b"universe 7 1 9 0
+player 30
+player 2
+planet 2:1:1 30 40 163
+planet 1:10:1 2 40 163
+player 10
+planet 1:9:15 30 40 163
+planet 1:10:3 10 40 163
+planet 1:10:2 2 40 163
+.
+";
+
+#[test]
+fn players_come_by_number_and_planets_by_coordinates(rt: HostRuntime) -> Result<(), Fail> {
+    let universe = universe_of(rt.alloc(), OUT_OF_ORDER)?;
+    let players = [Player { k: 2 }, Player { k: 10 }, Player { k: 30 }];
+    assert_eq!(rt; universe.players.as_slice(), players.as_slice());
+    let places = [
+        Coord { g: 1, s: 9, p: 15 },
+        Coord { g: 1, s: 10, p: 1 },
+        Coord { g: 1, s: 10, p: 2 },
+        Coord { g: 1, s: 10, p: 3 },
+        Coord { g: 2, s: 1, p: 1 },
+    ];
+    assert_eq!(rt; universe.planets.len(), places.len());
+    for (planet, at) in universe.planets.iter().zip(places.iter()) {
+        assert_eq!(rt; planet.at, *at);
+    }
+    Ok(())
+}
+
 #[test]
 fn a_fault_ends_the_reading(rt: HostRuntime) -> Result<(), Fail> {
-    let text = b"universe 7 3 9 5\nplayer 4\nplanet 2:33:5 4 -12 163\n.\n";
-    let founding = founding_of(rt.alloc(), text, &[1])?;
-    assert!(rt; matches!(&founding, Founding::Fault));
+    let text = b"universe 7 3 9 5\nplayer 4\nplayer 5\n.\n";
+    let mut source = MemorySource::new(text, &[2]).in_pieces(20);
+    let mut reader = LineReader::new(rt.alloc())?;
+    let founding = read(rt.alloc(), &mut reader, &mut source);
+    assert!(rt; matches!(&founding, Err(FoundingFault::ReadFault)));
+    assert_eq!(rt; reader.next(&mut source), Line::Text(8));
+    assert_eq!(rt; reader.line(), b"player 4".as_slice());
     Ok(())
 }
 
@@ -233,22 +277,4 @@ fn a_universe_has_10000_players_and_20000_planets_at_most(rt: HostRuntime) -> Re
         assert_eq!(rt; counts_of(rt.alloc(), &text)?, want);
     }
     Ok(())
-}
-
-#[test]
-fn a_draft_founds_what_it_was_told(rt: HostRuntime) {
-    let heading = Heading {
-        rules: Rules { seed: 1, speed: 2 },
-        capacity: 3,
-        moment: 4,
-    };
-    let universe = Draft::new(rt.alloc(), heading).found();
-    assert_eq!(rt; universe.moment, 4);
-    let planet = NewPlanet {
-        at: Coord { g: 1, s: 1, p: 1 },
-        owner: Player { k: 1 },
-        temperature: 0,
-        fields: 1,
-    };
-    assert_eq!(rt; planet.planet().fields, 1);
 }

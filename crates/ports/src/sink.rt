@@ -9,14 +9,14 @@ use crate::failed::Failed;
 
 /// What bytes are written to, in order.
 pub trait Sink {
-    // the bytes that were written, where the object tells
+    // the bytes that were written, if the object tells
     ghost written: { Self → Option (List ℕ) };
 
     // how many calls have failed, up to 2^64 - 1
     ghost faults: { Self → ℕ };
 
-    /// Writes some of the bytes at the front of `from`, and returns how many: at least one, where
-    /// `from` has one. Where it fails it has written nothing, and may be called again.
+    /// Writes some of the bytes at the front of `from`, and returns how many: at least one, if
+    /// `from` has one. If it fails it has written nothing, and may be called again.
     fn write(&mut self, from: &[u8]) -> Result<usize, Failed>
         ensures bound { WritesAtMost result from.now }
         ensures some { IfOk result (λ n. 0 < length from.now → 0 < n) }

@@ -9,15 +9,15 @@ use crate::failed::Failed;
 
 /// What bytes are read from, in order.
 pub trait Source {
-    // the bytes that are left to read, where the object tells
+    // the bytes that are left to read, if the object tells
     ghost left: { Self → Option (List ℕ) };
 
     // how many calls have failed, up to 2^64 - 1
     ghost faults: { Self → ℕ };
 
     /// Reads some of the bytes that are left into the front of `into`, and returns how many.
-    /// It returns 0 for an `into` with room only where no byte is left.
-    /// Where it fails it has read nothing, and may be called again.
+    /// It returns 0 for an `into` with room only if no byte is left.
+    /// If it fails it has read nothing, and may be called again.
     fn read(&mut self, into: &mut [u8]) -> Result<usize, Failed>
         ensures bound { ReadsAtMost result into.new }
         ensures bytes { ReadConsumes (left self.old) (left self.new) result into.new }

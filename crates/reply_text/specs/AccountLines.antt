@@ -12,7 +12,7 @@ abbrev pub account_line : AccountHead → List ℕ
 account_line account =
     line (codes "account" ∷ player_text account.player ∷ decimal account.units ∷ decimal account.fleets ∷ decimal account.slots ∷ [])
 
--- `tech NAME L` for each technology above 0, in the order of TECHNOLOGIES
+-- `tech TECH LEVEL` for each technology above 0, in the order of TECHNOLOGIES
 abbrev pub tech_lines : List ℕ → List ℕ
 tech_lines levels = kind_lines (codes "tech") 0 TECHNOLOGIES levels
 

@@ -17,19 +17,19 @@ abbrev pub stage_word : Stage → List ℕ
 stage_word Out = codes "out"
 stage_word Back = codes "back"
 
--- N GROUP MISSION FROM TO: which fleet it is, and what it is sent for
+-- F GROUP MISSION A B: which fleet it is, and what it is sent for
 abbrev pub course_words : FleetLine → List (List ℕ)
 course_words fleet =
     decimal fleet.number ∷ decimal fleet.group ∷ mission_word fleet.mission ∷ coord_text fleet.from ∷ coord_text fleet.to ∷ []
 
--- STAGE SECOND M C D SHIPS: how far it is, and what it has on board
+-- STAGE SECOND METAL CRYSTAL DEUTERIUM SHIPS: how far it is, and what it has on board
 abbrev pub state_words : FleetLine → List (List ℕ)
 state_words fleet = stage_word fleet.stage ∷ decimal fleet.second ∷ units_text fleet.cargo ∷ ships_text fleet.ships ∷ []
 
--- `fleet N GROUP MISSION FROM TO STAGE SECOND M C D SHIPS`
+-- `fleet F GROUP MISSION A B STAGE SECOND METAL CRYSTAL DEUTERIUM SHIPS`
 abbrev pub fleet_line : FleetLine → List ℕ
 fleet_line fleet = line (codes "fleet" ∷ course_words fleet ++ state_words fleet)
 
--- `at C OWNER M C`: a planet of a system, with the metal and crystal of its debris
+-- `at C K METAL CRYSTAL`: a planet of a system, with the metal and crystal of its debris
 abbrev pub at_line : Coord → Player → ℕ → ℕ → List ℕ
 at_line at owner metal crystal = line (codes "at" ∷ coord_text at ∷ player_text owner ∷ decimal metal ∷ decimal crystal ∷ [])

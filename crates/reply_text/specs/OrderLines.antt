@@ -12,7 +12,7 @@ starts_line amount second = line (codes "starts" ∷ decimal amount ∷ decimal 
 abbrev pub waits_line : ℕ → List ℕ
 waits_line place = line (codes "waits" ∷ decimal place ∷ [])
 
--- `arrives SECOND fuel F`
+-- `arrives SECOND fuel FUEL`
 abbrev pub arrives_line : ℕ → ℕ → List ℕ
 arrives_line second fuel = line (codes "arrives" ∷ decimal second ∷ codes "fuel" ∷ decimal fuel ∷ [])
 

@@ -8,24 +8,24 @@ use Rattle.reply_text.specs.Words.{kind_lines, line}
 use Rattle.reply_text.specs.declared.planet_lines.PlanetHead.{PlanetHead}
 use Rattle.reply_text.specs.declared.units.Units.{Units}
 
--- `planet C OWNER T FIELDS USED`
+-- `planet C K TEMPERATURE FIELDS USED`
 abbrev pub planet_line : PlanetHead → List ℕ
 planet_line planet =
     line (codes "planet" ∷ coord_text planet.at ∷ player_text planet.owner ∷ signed_decimal planet.temperature ∷ decimal planet.fields ∷ decimal planet.used ∷ [])
 
--- NAME M C D: metal, crystal and deuterium
+-- NAME METAL CRYSTAL DEUTERIUM
 abbrev pub amounts_line : List ℕ → Units → List ℕ
 amounts_line name units = line (name ∷ units_text units ∷ [])
 
--- `stock M C D`: what the planet has
+-- `stock METAL CRYSTAL DEUTERIUM`: what the planet has
 abbrev pub stock_line : Units → List ℕ
 stock_line units = amounts_line (codes "stock") units
 
--- `hourly M C D`: what it yields an hour
+-- `hourly METAL CRYSTAL DEUTERIUM`: what it yields an hour
 abbrev pub hourly_line : Units → List ℕ
 hourly_line units = amounts_line (codes "hourly") units
 
--- `limit M C D`: the units up to which production fills its stocks
+-- `limit METAL CRYSTAL DEUTERIUM`: the units up to which production fills its stocks
 abbrev pub limit_line : Units → List ℕ
 limit_line units = amounts_line (codes "limit") units
 
@@ -33,18 +33,18 @@ limit_line units = amounts_line (codes "limit") units
 abbrev pub energy_line : ℕ → ℕ → List ℕ
 energy_line given need = line (codes "energy" ∷ decimal given ∷ decimal need ∷ [])
 
--- `debris M C`
+-- `debris METAL CRYSTAL`
 abbrev pub debris_line : ℕ → ℕ → List ℕ
 debris_line metal crystal = line (codes "debris" ∷ decimal metal ∷ decimal crystal ∷ [])
 
--- `level NAME L` for each building above 0, in the order of BUILDINGS
+-- `level BUILDING LEVEL` for each building above 0, in the order of BUILDINGS
 abbrev pub level_lines : List ℕ → List ℕ
 level_lines levels = kind_lines (codes "level") 0 BUILDINGS levels
 
--- `set NAME N` for each setting other than 10, in the order of WORKS
+-- `set WORK TENTHS` for each setting other than 10, in the order of WORKS
 abbrev pub set_lines : List ℕ → List ℕ
 set_lines settings = kind_lines (codes "set") 10 WORKS settings
 
--- `units NAME N` for each ship and defence above 0, in the order of UNIT_KINDS
+-- `units UNIT COUNT` for each ship and defence above 0, in the order of UNIT_KINDS
 abbrev pub unit_lines : List ℕ → List ℕ
 unit_lines counts = kind_lines (codes "units") 0 UNIT_KINDS counts

@@ -3,6 +3,6 @@ use Rattle.std.specs.Prelude.{ℕ, List, ◌++◌, codes}
 use Rattle.std.specs.Fmt.{decimal}
 use Rattle.reply_text.specs.declared.units.Units.{Units}
 
--- units are written M C D
+-- units are written METAL CRYSTAL DEUTERIUM
 abbrev pub units_text : Units → List ℕ
 units_text units = decimal units.metal ++ codes " " ++ decimal units.crystal ++ codes " " ++ decimal units.deuterium

@@ -39,8 +39,8 @@ pub fn push_account(alloc: Global, body: &mut Bytes, account: AccountHead) -> Re
     )
 }
 
-/// Appends `tech NAME L` for each technology whose level is above 0. The levels stand in the order of `TECHNOLOGIES`, and
-/// the lines come in this order.
+/// Appends `tech TECH LEVEL` for each technology whose level is above 0. The levels stand in the order of `TECHNOLOGIES`,
+/// and the lines come in this order.
 ///
 /// It fails only if memory runs out, and then appends nothing.
 pub fn push_technologies(

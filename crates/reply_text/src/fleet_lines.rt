@@ -50,7 +50,7 @@ pub struct FleetLine {
     pub ships: [u32; 13],
 }
 
-/// The text of ships: `NAME=N` for each kind that is there, joined by commas.
+/// The text of ships: `UNIT=COUNT` for each kind that is there, joined by commas.
 fn ships_text(alloc: Global, counts: &[u32; 13]) -> Result<String, AllocError>
     ensures { IfOk result (λ text. string_bytes text ≡ ships_text counts.now) }
 {
@@ -78,7 +78,7 @@ fn push_ship(text: &mut String, is_first: bool, kind: Kind, count: u32) -> Resul
     }
 }
 
-/// `N GROUP MISSION FROM TO`.
+/// `F GROUP MISSION A B`.
 fn course_text(alloc: Global, fleet: &FleetLine) -> Result<String, AllocError>
     ensures { IfOk result (λ text. string_bytes text ≡ join_with_byte 32 (course_words fleet.now)) }
 {
@@ -93,7 +93,7 @@ fn course_text(alloc: Global, fleet: &FleetLine) -> Result<String, AllocError>
     format!(in alloc; "{number} {group} {mission} {from} {to}")
 }
 
-/// `STAGE SECOND M C D SHIPS`.
+/// `STAGE SECOND METAL CRYSTAL DEUTERIUM SHIPS`.
 fn state_text(alloc: Global, fleet: &FleetLine) -> Result<String, AllocError>
     ensures { IfOk result (λ text. string_bytes text ≡ join_with_byte 32 (state_words fleet.now)) }
 {
@@ -107,7 +107,7 @@ fn state_text(alloc: Global, fleet: &FleetLine) -> Result<String, AllocError>
     format!(in alloc; "{stage} {second} {cargo} {ships}")
 }
 
-/// Appends `fleet N GROUP MISSION FROM TO STAGE SECOND M C D SHIPS`: a fleet.
+/// Appends `fleet F GROUP MISSION A B STAGE SECOND METAL CRYSTAL DEUTERIUM SHIPS`: a fleet.
 ///
 /// It fails only if memory runs out, and then appends nothing.
 pub fn push_fleet(alloc: Global, body: &mut Bytes, fleet: &FleetLine) -> Result<(), AllocError>
@@ -119,7 +119,7 @@ pub fn push_fleet(alloc: Global, body: &mut Bytes, fleet: &FleetLine) -> Result<
     push_line(alloc, body, format_args!("fleet {course} {state}"))
 }
 
-/// Appends `at C OWNER M C`: a planet of a system, and the metal and crystal in its orbit, in whole units. A system lists
+/// Appends `at C K METAL CRYSTAL`: a planet of a system, and the metal and crystal in its orbit, in whole units. A system lists
 /// its planets in the order of their coordinates.
 ///
 /// It fails only if memory runs out, and then appends nothing.

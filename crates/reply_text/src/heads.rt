@@ -32,7 +32,7 @@ fn put_number(into: &mut [u8; 80], at: usize, number: u64) -> usize
 
 /// Writes the first line of a reply, with its line feed, to the front of `into`. It answers the length of the line.
 ///
-/// It is `ok N M` or `no N M CODE`. It takes no memory.
+/// It is `ok N MOMENT` or `no N MOMENT CODE`. It takes no memory.
 #[tactic(auto, unfolding(crate::specs::Words::line))]
 pub fn head(r: &Reply, into: &mut [u8; 80]) -> usize
     ensures within { result ≤ 80 }
@@ -67,7 +67,7 @@ fn put_refusal(into: &mut [u8; 80], word: &[u8], number: u64) -> usize
 /// Writes the line that answers a request that has no reply, with its line feed, to the front of `into`. It answers the
 /// length of the line.
 ///
-/// It is `full COUNT`, `fault N` or `memory`. It takes no memory.
+/// It is `full ENTRIES`, `fault N` or `memory`. It takes no memory.
 #[tactic(auto, unfolding(crate::specs::Words::line))]
 pub fn refused(r: &Refused, into: &mut [u8; 80]) -> usize
     ensures within { result ≤ 80 }

@@ -33,7 +33,7 @@ pub fn push_waits(alloc: Global, body: &mut Bytes, place: u64) -> Result<(), All
     push_line(alloc, body, format_args!("waits {place}"))
 }
 
-/// Appends `arrives SECOND fuel F`: the second at which a fleet arrives, and the units of deuterium that it burns.
+/// Appends `arrives SECOND fuel FUEL`: the second at which a fleet arrives, and the units of deuterium that it burns.
 ///
 /// It fails only if memory runs out, and then appends nothing.
 #[tactic(auto, unfolding(crate::specs::Words::line))]

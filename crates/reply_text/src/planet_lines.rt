@@ -20,7 +20,7 @@ pub struct PlanetHead {
     pub used: u16,
 }
 
-/// Appends `planet C OWNER T FIELDS USED`: a planet, T being its maximum temperature in degrees.
+/// Appends `planet C K TEMPERATURE FIELDS USED`: a planet, with its maximum temperature in degrees.
 ///
 /// It fails only if memory runs out, and then appends nothing.
 #[tactic(auto, unfolding(crate::specs::Words::line))]
@@ -42,7 +42,7 @@ pub fn push_planet(alloc: Global, body: &mut Bytes, planet: PlanetHead) -> Resul
     )
 }
 
-/// Appends `NAME M C D`. It fails only if memory runs out, and then appends nothing.
+/// Appends `NAME METAL CRYSTAL DEUTERIUM`. It fails only if memory runs out, and then appends nothing.
 #[tactic(auto, unfolding(crate::specs::Words::line))]
 fn push_amounts(alloc: Global, body: &mut Bytes, name: &str, units: Units) -> Result<(), AllocError>
     ensures ok { OnOk result (body.new ≡ body.old ++ amounts_line name.now units) }
@@ -51,7 +51,7 @@ fn push_amounts(alloc: Global, body: &mut Bytes, name: &str, units: Units) -> Re
     push_line(alloc, body, format_args!("{name} {units}"))
 }
 
-/// Appends `stock M C D`: what a planet has, in whole units.
+/// Appends `stock METAL CRYSTAL DEUTERIUM`: what a planet has, in whole units.
 ///
 /// It fails only if memory runs out, and then appends nothing.
 pub fn push_stock(alloc: Global, body: &mut Bytes, units: Units) -> Result<(), AllocError>
@@ -61,7 +61,7 @@ pub fn push_stock(alloc: Global, body: &mut Bytes, units: Units) -> Result<(), A
     push_amounts(alloc, body, "stock", units)
 }
 
-/// Appends `hourly M C D`: what a planet yields, in units an hour.
+/// Appends `hourly METAL CRYSTAL DEUTERIUM`: what a planet yields, in units an hour.
 ///
 /// It fails only if memory runs out, and then appends nothing.
 pub fn push_hourly(alloc: Global, body: &mut Bytes, units: Units) -> Result<(), AllocError>
@@ -71,7 +71,7 @@ pub fn push_hourly(alloc: Global, body: &mut Bytes, units: Units) -> Result<(), 
     push_amounts(alloc, body, "hourly", units)
 }
 
-/// Appends `limit M C D`: the units up to which its production fills the stocks of a planet.
+/// Appends `limit METAL CRYSTAL DEUTERIUM`: the units up to which its production fills the stocks of a planet.
 ///
 /// It fails only if memory runs out, and then appends nothing.
 pub fn push_limit(alloc: Global, body: &mut Bytes, units: Units) -> Result<(), AllocError>
@@ -92,7 +92,7 @@ pub fn push_energy(alloc: Global, body: &mut Bytes, given: u64, need: u64) -> Re
     push_line(alloc, body, format_args!("energy {given} {need}"))
 }
 
-/// Appends `debris M C`: the metal and crystal in orbit, in whole units.
+/// Appends `debris METAL CRYSTAL`: the metal and crystal in orbit, in whole units.
 ///
 /// It fails only if memory runs out, and then appends nothing.
 #[tactic(auto, unfolding(crate::specs::Words::line))]
@@ -108,8 +108,8 @@ pub fn push_debris(
     push_line(alloc, body, format_args!("debris {metal} {crystal}"))
 }
 
-/// Appends `level NAME L` for each building whose level is above 0. The levels stand in the order of `BUILDINGS`, and the
-/// lines come in this order.
+/// Appends `level BUILDING LEVEL` for each building whose level is above 0. The levels stand in the order of `BUILDINGS`,
+/// and the lines come in this order.
 ///
 /// It fails only if memory runs out, and then appends nothing.
 pub fn push_levels(alloc: Global, body: &mut Bytes, levels: &[u8; 11]) -> Result<(), AllocError>
@@ -119,8 +119,8 @@ pub fn push_levels(alloc: Global, body: &mut Bytes, levels: &[u8; 11]) -> Result
     push_kinds(alloc, body, "level", 0, &BUILDINGS, Numbers::Levels(levels))
 }
 
-/// Appends `set NAME N` for each setting other than 10. The settings, 0 to 10 tenths each, stand in the order of `WORKS`,
-/// and the lines come in this order.
+/// Appends `set WORK TENTHS` for each setting other than 10. The settings, 0 to 10 tenths each, stand in the order of
+/// `WORKS`, and the lines come in this order.
 ///
 /// It fails only if memory runs out, and then appends nothing.
 pub fn push_settings(alloc: Global, body: &mut Bytes, settings: &[u8; 5]) -> Result<(), AllocError>
@@ -130,7 +130,7 @@ pub fn push_settings(alloc: Global, body: &mut Bytes, settings: &[u8; 5]) -> Res
     push_kinds(alloc, body, "set", 10, &WORKS, Numbers::Levels(settings))
 }
 
-/// Appends `units NAME N` for each kind of ship or defence of which there are any. The counts stand in the order of
+/// Appends `units UNIT COUNT` for each kind of ship or defence of which there are any. The counts stand in the order of
 /// `UNIT_KINDS`, and the lines come in this order.
 ///
 /// It fails only if memory runs out, and then appends nothing.

@@ -38,7 +38,7 @@ pub struct RunningResearch {
     pub at: Coord,
 }
 
-/// Appends `building N NAME LEVEL SECOND`: the building that is built.
+/// Appends `building N BUILDING LEVEL SECOND`: the building that is built.
 ///
 /// It fails only if memory runs out, and then appends nothing.
 #[tactic(auto, unfolding(crate::specs::Words::line))]
@@ -63,7 +63,7 @@ pub fn push_building(
     )
 }
 
-/// Appends `waiting N NAME`: a building that waits, after the number of its order.
+/// Appends `waiting N BUILDING`: a building that waits, after the number of its order.
 ///
 /// It fails only if memory runs out, and then appends nothing.
 #[tactic(auto, unfolding(crate::specs::Words::line))]
@@ -79,7 +79,7 @@ pub fn push_waiting_building(
     push_line(alloc, body, format_args!("waiting {number} {kind}"))
 }
 
-/// Appends `yard N NAME LEFT SECOND`: the batch that a yard builds.
+/// Appends `yard N UNIT LEFT SECOND`: the batch that a yard builds.
 ///
 /// It fails only if memory runs out, and then appends nothing.
 #[tactic(auto, unfolding(crate::specs::Words::line))]
@@ -100,7 +100,7 @@ pub fn push_yard(alloc: Global, body: &mut Bytes, batch: RunningBatch) -> Result
     )
 }
 
-/// Appends `yardwaiting N NAME LEFT`: a batch that waits, after the number of its order, and how many units it has.
+/// Appends `yardwaiting N UNIT LEFT`: a batch that waits, after the number of its order, and how many units it has.
 ///
 /// It fails only if memory runs out, and then appends nothing.
 #[tactic(auto, unfolding(crate::specs::Words::line))]
@@ -121,7 +121,7 @@ pub fn push_yard_waiting(
     )
 }
 
-/// Appends `research N NAME LEVEL SECOND C`: the technology that is researched.
+/// Appends `research N TECH LEVEL SECOND C`: the technology that is researched.
 ///
 /// It fails only if memory runs out, and then appends nothing.
 #[tactic(auto, unfolding(crate::specs::Words::line))]
@@ -147,7 +147,7 @@ pub fn push_research(
     )
 }
 
-/// Appends `waiting N NAME C`: a technology that waits, after the number of its order, and the place of the planet whose
+/// Appends `waiting N TECH C`: a technology that waits, after the number of its order, and the place of the planet whose
 /// lab will do it.
 ///
 /// It fails only if memory runs out, and then appends nothing.

@@ -1,6 +1,6 @@
 use std::fmt;
 
-/// Whole units of metal, crystal and deuterium, without a bound. The text is `M C D`.
+/// Whole units of metal, crystal and deuterium, without a bound. The text is `METAL CRYSTAL DEUTERIUM`.
 #[derive(Clone, Copy, Debug, PartialEq, Eq)]
 pub struct Units {
     pub metal: u64,

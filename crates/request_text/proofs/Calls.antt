@@ -1,11 +1,12 @@
 -- The words of calls, read one by one.
-use Rattle.std.proofs.Common.{◌≡◌, ℕ, ◌<◌, ◌^◌, Bool, true, false, List, [], ◌∷◌, refl, sym, ap, ◌∙◌, subst, arith, ne_eqb, decimal}
+use Rattle.std.proofs.Common.{◌≡◌, ◌≤◌, ℕ, Bool, true, false, List, [], ◌∷◌, refl, sym, ap, ◌∙◌, subst, arith, ne_eqb, decimal}
+use Rattle.ports.specs.declared.clock.TheConstants.{LATEST}
 use Rattle.std.specs.Prelude.{Option, Some, None, MatchOption, IsNone, IsSomeAnd, ◌&&◌}
 use Rattle.base_text.specs.Parts.{Lacks, words}
 use Rattle.base_text.proofs.Lacking.{decimal_lacks_at}
 use Rattle.base_ids.specs.Text.{player_text}
 use Rattle.base_ids.specs.declared.player.Player.{Player}
-use Rattle.request_text.specs.Grammar.{IsOutside, MayName, Spells, call_words, timed_words}
+use Rattle.request_text.specs.Grammar.{IsOutside, AllowsReading, Spells, call_words, timed_words}
 use Rattle.request_text.specs.Timing.{is_timed}
 use Rattle.request_text.specs.Words.{request_words}
 use Rattle.request_text.specs.declared.call.Call.{Call}
@@ -30,7 +31,7 @@ ReadsUntimed all found = MatchOption found ((player : Player) (req : Request) �
 
 abbrev pub ReadsTimed : List (List ℕ) → Option Call → Type 0
 ReadsTimed all found =
-    MatchOption found ((reading : ℕ) (player : Player) (req : Request) → reading < 2 ^ 40 → all ≡ (64 ∷ decimal reading) ∷ player_text player ∷ request_words req → ⊥)
+    MatchOption found ((reading : ℕ) (player : Player) (req : Request) → reading ≤ LATEST → all ≡ (64 ∷ decimal reading) ∷ player_text player ∷ request_words req → ⊥)
     (λ call. IsSomeAnd call.reading (λ reading. all ≡ (64 ∷ decimal reading) ∷ player_text call.player ∷ request_words call.req))
 
 some_timed : (words : List (List ℕ)) (bytes : List ℕ) (more : List (List ℕ)) → words ≡ (64 ∷ bytes) ∷ more → is_timed words ≡ true
@@ -40,7 +41,7 @@ some_timed words bytes more is = ap is_timed is
 pub read_untimed : (script : Bool) (line : List ℕ) (found : Option Call) → (script && is_timed (words line)) ≡ false → ReadsUntimed (words line) found → MatchOption found (IsOutside script line) (Spells script line)
 read_untimed script line None untimed none = λ call spells. refuse script call untimed spells.may spells.same call.reading refl
   where
-    refuse : (script : Bool) (call : Call) → (script && is_timed (words line)) ≡ false → MayName script call.reading → words line ≡ call_words call → (reading : Option ℕ) → call.reading ≡ reading → ⊥
+    refuse : (script : Bool) (call : Call) → (script && is_timed (words line)) ≡ false → AllowsReading script call.reading → words line ≡ call_words call → (reading : Option ℕ) → call.reading ≡ reading → ⊥
     refuse script call untimed may same None is = none call.player call.req (same ∙ ap (λ r. timed_words r (player_text call.player ∷ request_words call.req)) is)
     refuse true call untimed may same (Some reading) is =
         let timed = some_timed (words line) (decimal reading) (player_text call.player ∷ request_words call.req) (same ∙ ap (λ r. timed_words r (player_text call.player ∷ request_words call.req)) is) in
@@ -49,7 +50,7 @@ read_untimed script line None untimed none = λ call spells. refuse script call 
     refuse false call untimed may same (Some reading) is = let never : IsNone (Some reading) = subst IsNone is may in cc
 read_untimed script line (Some call) untimed read = record { may = may script; same = read.1 ∙ ap (λ r. timed_words r (player_text call.player ∷ request_words call.req)) (sym read.0) }
   where
-    may : (script : Bool) → MayName script call.reading
+    may : (script : Bool) → AllowsReading script call.reading
     may true = tt
     may false = subst IsNone (sym read.0) refl
 
@@ -72,7 +73,7 @@ read_timed true line (Some call) timed read = record { may = tt; same = same cal
     same (Some reading) is read = read ∙ ap (λ r. timed_words r (player_text call.player ∷ request_words call.req)) (sym is)
 
 -- after the reading
-pub no_timed : (old new : List (List ℕ)) (first : List ℕ) → old ≡ first ∷ new → ((player : Player) (req : Request) → new ≡ player_text player ∷ request_words req → ⊥) → (reading : ℕ) (player : Player) (req : Request) → reading < 2 ^ 40 → old ≡ (64 ∷ decimal reading) ∷ player_text player ∷ request_words req → ⊥
+pub no_timed : (old new : List (List ℕ)) (first : List ℕ) → old ≡ first ∷ new → ((player : Player) (req : Request) → new ≡ player_text player ∷ request_words req → ⊥) → (reading : ℕ) (player : Player) (req : Request) → reading ≤ LATEST → old ≡ (64 ∷ decimal reading) ∷ player_text player ∷ request_words req → ⊥
 no_timed old new first cut none reading player req small spells = none player req (tail_same old first (64 ∷ decimal reading) new (player_text player ∷ request_words req) cut spells)
 
 pub ruleset untimed = (no_request)

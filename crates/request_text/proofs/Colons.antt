@@ -28,7 +28,7 @@ pub two_read : (text first rest : List ℕ) (a b : ℕ) → parts 58 text ≡ fi
 two_read text first rest a b e f g =
     sym (join-parts 58 text) ∙ ap (join_with_byte 58) (e ∙ (λ i. f i ∷ parts 58 (g i)) ∙ ap (λ ps. decimal a ∷ ps) (parts-one 58 (decimal b) (decimal_lacks_colon b))) ∙ sym (two_colons a b)
 
--- two such texts are the same only where the numbers are
+-- two such texts are the same only if the numbers are
 pub two_once : (a b x y : ℕ) → a < 2 ^ 64 → b < 2 ^ 64 → x < 2 ^ 64 → y < 2 ^ 64 → decimal a ++ codes ":" ++ decimal b ≡ decimal x ++ codes ":" ++ decimal y → (a ≡ x) × (b ≡ y)
 two_once a b x y la lb lx ly e =
     let same : decimal a ∷ decimal b ∷ [] ≡ decimal x ∷ decimal y ∷ [] = sym (parts-two a b) ∙ ap (parts 58) e ∙ parts-two x y in

@@ -11,3 +11,4 @@ pub mod ShipParts
 pub mod Spelled
 pub mod Spellings
 pub mod Tails
+mod FeedSearch

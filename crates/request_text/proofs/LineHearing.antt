@@ -6,7 +6,7 @@ use Rattle.std.specs.Str.Lines.{lines, lines_of_parts, strip_carriage_return}
 use Rattle.base_text.specs.Parts.{Lacks, parts}
 use Rattle.base_text.proofs.Lacking.{lacks-append}
 use Rattle.base_text.proofs.Splitting.{parts-more}
-use Rattle.request_text.specs.LineReading.{kept, EndsAtFeed, Sees, Follows}
+use Rattle.request_text.specs.LineReading.{kept, EndsAtFeed, HasEnded, Sees, Follows}
 use Rattle.request_text.specs.declared.line_reader.LineReader.{LineReader}
 use Rattle.request_text.proofs.LineSeeing.{lacks-front}
 
@@ -60,9 +60,9 @@ lines-said said piece rest more line (inr (inr none)) parts alone =
     let empty : piece ≡ [] = nil_from_length piece (let all = length-append piece more in let whole = ap length (sym none ∙ parts) in omega (arith, all, whole)) in
     absurd (cc (ap lines empty, alone))
 
-closed-more : (said piece rest : List ℕ) → EndsAtFeed piece ⊎ (rest ≡ []) → (said ++ piece ≡ []) ⊎ (EndsAtFeed (said ++ piece) ⊎ (rest ≡ []))
-closed-more said piece rest (inl (front, e)) = inr (inl (said ++ front, ap (λ p. said ++ p) e ∙ sym (append_assoc said front (10 ∷ []))))
-closed-more said piece rest (inr none) = inr (inr none)
+closed-more : (said piece rest : List ℕ) (reader : LineReader) → EndsAtFeed piece ⊎ HasEnded reader.stage → (HasEnded reader.stage → rest ≡ []) → (said ++ piece ≡ []) ⊎ (EndsAtFeed (said ++ piece) ⊎ (rest ≡ []))
+closed-more said piece rest reader (inl (front, e)) none = inr (inl (said ++ front, ap (λ p. said ++ p) e ∙ sym (append_assoc said front (10 ∷ []))))
+closed-more said piece rest reader (inr over) none = inr (inr (none over))
 
 -- one more line was answered
 pub heard-line : (whole rest line left : List ℕ) (done : List (List ℕ)) (reader : LineReader) → Heard whole done rest → (next : Follows reader left rest line) → Heard whole (done ++ line ∷ []) next.rest
@@ -71,7 +71,7 @@ heard-line whole rest line left done reader before next =
       said = before.said ++ next.piece;
       parts = before.parts ∙ ap (λ r. before.said ++ r) next.parts ∙ sym (append_assoc before.said next.piece next.rest);
       lines_said = lines-said before.said next.piece rest next.rest line before.closed next.parts next.alone ∙ ap (λ d. d ++ line ∷ []) before.lines_said;
-      closed = closed-more before.said next.piece next.rest next.closed;
+      closed = closed-more before.said next.piece next.rest reader next.closed next.sees.ended;
     }
 
 -- all lines were answered

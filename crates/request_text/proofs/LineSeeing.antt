@@ -7,7 +7,7 @@ use Rattle.base_text.specs.Parts.{Lacks}
 use Rattle.base_text.proofs.Lacking.{lacks-append, lacks-nil}
 use Rattle.base_text.proofs.Splitting.{lines-join, lines-last, parts-one}
 use Rattle.request_text.specs.Feeds.{IsFirstFeed}
-use Rattle.request_text.specs.LineReading.{told, kept, HasEnded, IsFront, Sees, Follows, Stays, Tells, OnFault, Nears, ahead, taken}
+use Rattle.request_text.specs.LineReading.{answered_line, kept, HasEnded, IsFront, Sees, Follows, Stays, Tells, advance, ahead, taken}
 use Rattle.request_text.specs.LineSteps.{Answers}
 use Rattle.request_text.specs.declared.line_reader.LineReader.{LineReader}
 use Rattle.request_text.specs.declared.line_reader.Stage.TheVariants.{Open}
@@ -94,7 +94,7 @@ pub tells-cut : (old new : LineReader) (place count : ℕ) (result : Line) → I
 tells-cut old new place count (Text n) feed same many within answers behind short open_yet left =
     λ text seen.
     let none = no-front old.long seen.front seen.passed answers.1 in
-    let line : strip_carriage_return (seen.front ++ take place (kept old)) ≡ told new =
+    let line : strip_carriage_return (seen.front ++ take place (kept old)) ≡ answered_line new =
     ap (λ f. strip_carriage_return (f ++ take place (kept old))) none ∙ sym same ∙ take-take count place (kept old) within ∙ sym answers.2 in
     subst (Follows new left text) line (follows-cut old new left text place seen feed behind short open_yet)
 tells-cut old new place count Long feed same many within answers behind short open_yet left =
@@ -108,9 +108,9 @@ tells-cut old new place count Fault feed same many within answers behind short o
 tells-cut old new place count Spent feed same many within answers behind short open_yet left = absurd answers
 
 -- the last line
-follows-last : (old new : LineReader) (text : List ℕ) (seen : Sees old [] text) → Lacks 10 (kept old) → 0 < length (seen.front ++ kept old) → kept new ≡ [] → new.long ≡ false
+follows-last : (old new : LineReader) (text : List ℕ) (seen : Sees old [] text) → Lacks 10 (kept old) → 0 < length (seen.front ++ kept old) → kept new ≡ [] → new.long ≡ false → HasEnded new.stage
     → Follows new [] text (seen.front ++ kept old)
-follows-last old new text seen free some none short =
+follows-last old new text seen free some none short over =
     let whole : text ≡ seen.front ++ kept old = seen.parts ∙ ap (λ b. seen.front ++ b) (append-nil (kept old)) in
     let all = lacks-append 10 seen.front (kept old) (lacks-front old.long seen.front seen.passed) free in
     let alone = lines-last (seen.front ++ kept old) (parts-one 10 (seen.front ++ kept old) all) some in
@@ -120,7 +120,7 @@ follows-last old new text seen free some none short =
       parts = whole ∙ sym (append-nil (seen.front ++ kept old));
       alone = alone;
       first = ap lines whole ∙ alone;
-      closed = inr refl;
+      closed = inr over;
       sees = sees-rest new [] [] short none (λ h. refl);
     }
 
@@ -130,24 +130,24 @@ long-last true front line passed h = let all = length-append front line in omega
 long-last false front line passed (inl h) = absurd (cc h)
 long-last false front line passed (inr h) = rw passed (omega (arith, h))
 
-pub tells-last : (old new : LineReader) (count : ℕ) (result : Line) → Lacks 10 (kept old) → count ≡ length (kept old) → (old.long ≡ false → 0 < count) → Answers old count new result → kept new ≡ drop count (kept old) → new.long ≡ false
+pub tells-last : (old new : LineReader) (count : ℕ) (result : Line) → Lacks 10 (kept old) → count ≡ length (kept old) → (old.long ≡ false → 0 < count) → Answers old count new result → kept new ≡ drop count (kept old) → new.long ≡ false → HasEnded new.stage
     → Tells old [] new [] result
-tells-last old new count (Text n) free many some answers behind short =
+tells-last old new count (Text n) free many some answers behind short over =
     λ text seen.
     let none = no-front old.long seen.front seen.passed answers.1 in
-    let line : seen.front ++ kept old ≡ told new = ap (λ f. f ++ kept old) none ∙ sym (take_all count (kept old) (omega arith)) ∙ sym answers.2 in
+    let line : seen.front ++ kept old ≡ answered_line new = ap (λ f. f ++ kept old) none ∙ sym (take_all count (kept old) (omega arith)) ∙ sym answers.2 in
     let much : 0 < length (seen.front ++ kept old) = let all = length-append seen.front (kept old) in let here = some answers.1 in omega (arith, all, here) in
-    subst (Follows new [] text) line (follows-last old new text seen free much (behind ∙ drop_all count (kept old) (omega arith)) short)
-tells-last old new count Long free many some answers behind short =
+    subst (Follows new [] text) line (follows-last old new text seen free much (behind ∙ drop_all count (kept old) (omega arith)) short over)
+tells-last old new count Long free many some answers behind short over =
     λ text seen.
-    let over = long-last old.long seen.front (kept old) seen.passed (subst (λ n. (old.long ≡ true) ⊎ (400 < n)) many answers) in (
+    let much = long-last old.long seen.front (kept old) seen.passed (subst (λ n. (old.long ≡ true) ⊎ (400 < n)) many answers) in (
       seen.front ++ kept old,
-      over,
-      follows-last old new text seen free (omega (arith, over)) (behind ∙ drop_all count (kept old) (omega arith)) short,
+      much,
+      follows-last old new text seen free (omega (arith, much)) (behind ∙ drop_all count (kept old) (omega arith)) short over,
     )
-tells-last old new count End free many some answers behind short = absurd answers
-tells-last old new count Fault free many some answers behind short = absurd answers
-tells-last old new count Spent free many some answers behind short = absurd answers
+tells-last old new count End free many some answers behind short over = absurd answers
+tells-last old new count Fault free many some answers behind short over = absurd answers
+tells-last old new count Spent free many some answers behind short over = absurd answers
 
 -- a long line of which more was passed over
 long-more : (long : Bool) (front line : List ℕ) → IsFront long front → (long ≡ true) ⊎ (401 < length line) → 401 < length (front ++ line)
@@ -195,26 +195,30 @@ tells-over old new over left =
     let all = ap length (sym none ∙ seen.parts) in
     (none, nil_from_length left (omega (arith, rest, last, all)))
 
--- an answer that is no fault
-pub unfailed : (result : Line) (P : Type 0) → OnFault result ⊥ → OnFault result P
-unfailed (Text n) P h = tt
-unfailed Long P h = tt
-unfailed End P h = tt
-unfailed Fault P h = absurd h
-unfailed Spent P h = tt
-
--- an answer after which less is ahead
-pub nears-less : (before after : ℕ) (result : Line) → after < before → Nears before after result
-nears-less before after (Text n) h = h
-nears-less before after Long h = h
-nears-less before after End h = omega arith
-nears-less before after Fault h = omega arith
-nears-less before after Spent h = omega arith
-
 -- less is ahead after a line that ended at a line feed
-pub less-ahead : (old new : LineReader) (place : ℕ) → place < length (kept old) → kept new ≡ drop (place + 1) (kept old) → new.long ≡ false → taken new ≡ taken old → ahead new < ahead old
-less-ahead old new place within behind short same =
+pub less-ahead : (old new : LineReader) (place count : ℕ) (result : Line) → place < length (kept old) → count ≤ place → Answers old count new result → kept new ≡ drop (place + 1) (kept old) → new.long ≡ false → taken new ≡ taken old
+    → ahead new + advance result ≤ ahead old
+less-ahead old new place count (Text n) within few answers behind short same =
+    let rest = ap length behind ∙ length-drop (place + 1) (kept old) in
+    let extra : Bool → ℕ = λ b. if b then 1 else 0 in
+    let none = ap extra short in
+    let bytes = answers.0 in
+    omega (arith, rest, none, within, same, bytes, few)
+less-ahead old new place count Long within few answers behind short same =
     let rest = ap length behind ∙ length-drop (place + 1) (kept old) in
     let extra : Bool → ℕ = λ b. if b then 1 else 0 in
     let none = ap extra short in
     omega (arith, rest, none, within, same)
+less-ahead old new place count End within few answers behind short same = absurd answers
+less-ahead old new place count Fault within few answers behind short same = absurd answers
+less-ahead old new place count Spent within few answers behind short same = absurd answers
+
+-- bytes without a line feed, of which the first were not read on from
+pub unread-none : (P : Type 0) (now old : List ℕ) → Lacks 10 now → (P × (now ≡ old)) ⊎ Lacks 10 old → Lacks 10 old
+unread-none P now old none (inl same) = subst (Lacks 10) same.1 none
+unread-none P now old none (inr lacks) = lacks
+
+-- where a line feed is kept, nothing was read
+pub unread-same : (P Q : Type 0) (old : List ℕ) → (P × Q) ⊎ Lacks 10 old → (Lacks 10 old → ⊥) → P
+unread-same P Q old (inl same) fed = same.0
+unread-same P Q old (inr lacks) fed = absurd (fed lacks)

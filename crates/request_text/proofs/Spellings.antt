@@ -1,5 +1,6 @@
 -- Each request has one spelling, and each spelling is of one request.
-use Rattle.std.proofs.Common.{◌≡◌, ℕ, ◌<◌, ◌^◌, Bool, true, false, eqb, List, [], ◌∷◌, arith, ap, refl, ◌∙◌, sym, subst, decimal, codes}
+use Rattle.std.proofs.Common.{◌≡◌, ℕ, ◌<◌, ◌≤◌, ◌^◌, Bool, true, false, eqb, List, [], ◌∷◌, arith, ap, refl, ◌∙◌, sym, subst, decimal, codes}
+use Rattle.ports.specs.declared.clock.TheConstants.{LATEST}
 use Rattle.std.specs.Prelude.{Option, Some, None}
 use Rattle.std.specs.Option.{ForSome}
 use Rattle.std.specs.Coded.{le_prop}
@@ -219,7 +220,7 @@ one_text req text same = sym (join-parts 32 text) ∙ ap (join_with_byte 32) sam
 -- calls with the same parts are one
 reading_is : (a b : Call) → a.reading ≡ b.reading → a.player ≡ b.player → a.req ≡ b.req → a ≡ b
 reading_is a b reading player req =
-    let at = λ (r : Option ℕ). (in_range : ForSome r (λ x. x < 2 ^ 40)) → a ≡ record a { reading = r; in_range = in_range } in
+    let at = λ (r : Option ℕ). (in_range : ForSome r (λ x. x ≤ LATEST)) → a ≡ record a { reading = r; in_range = in_range } in
     let first = subst at reading (λ in_range i. record a { in_range = λ x is. le_prop (a.in_range x is) (in_range x is) i }) b.in_range in
     first ∙ (λ i. record { reading = b.reading; player = player i; req = req i; in_range = b.in_range })
 

@@ -7,7 +7,7 @@ use Rattle.base_ids.specs.Text.{player_text}
 use Rattle.request_text.specs.Words.{request_words}
 use Rattle.request_text.specs.declared.call.Call.{Call}
 
--- the words before the player: @ and the reading, where one is named
+-- the words before the player: @ and the reading, if one is named
 abbrev pub timed_words : Option ℕ → List (List ℕ) → List (List ℕ)
 timed_words None more = more
 timed_words (Some reading) more = (64 ∷ decimal reading) ∷ more
@@ -16,14 +16,14 @@ timed_words (Some reading) more = (64 ∷ decimal reading) ∷ more
 abbrev pub call_words : Call → List (List ℕ)
 call_words call = timed_words call.reading (player_text call.player ∷ request_words call.req)
 
--- only the lines of a script may name a reading
-abbrev pub MayName : Bool → Option ℕ → Type 0
-MayName true reading = Unit {0}
-MayName false reading = IsNone reading
+-- only a line of a script may name a reading
+abbrev pub AllowsReading : Bool → Option ℕ → Type 0
+AllowsReading true reading = Unit {0}
+AllowsReading false reading = IsNone reading
 
--- A line of a script, or of a connection, spells a call where its words, with one space between them, are the call's.
+-- A line of a script, or of a connection, spells a call if its words, with one space between them, are the call's.
 pub record Spells (script : Bool) (line : List ℕ) (call : Call) : Type 0 where
-  pub may : MayName script call.reading
+  pub may : AllowsReading script call.reading
   pub same : words line ≡ call_words call
 
 -- no call is spelled so

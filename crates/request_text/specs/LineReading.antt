@@ -1,18 +1,23 @@
 -- What a line reader still has to tell, and which bytes each of its answers stands for. Rule: docs/PROTOCOL.md,
 -- "Lines, words, numbers".
-use Rattle.std.specs.Prelude.{◌≡◌, ℕ, ◌+◌, ◌-◌, ◌^◌, ◌<◌, ◌≤◌, ◌⊎◌, Bool, true, false, if◌then◌else◌, List, [], ◌∷◌, ◌++◌, length, take, drop, Option, None, Some, ⊤}
+use Rattle.std.specs.Prelude.{◌≡◌, ℕ, ◌+◌, ◌-◌, ◌<◌, ◌≤◌, ◌⊎◌, max, Bool, true, false, if◌then◌else◌, List, [], ◌∷◌, ◌++◌, length, take, drop, Option, None, Some, ⊤}
 use Rattle.std.specs.Str.Lines.{lines}
 use Rattle.base_text.specs.Parts.{Lacks}
 use Rattle.request_text.specs.Windows.{items}
+use Rattle.request_text.specs.declared.line_reader.TheConstants.{LONGEST_LINE, MOST_TAKEN}
 use Rattle.request_text.specs.declared.line_reader.LineReader.{LineReader}
 use Rattle.request_text.specs.declared.line_reader.Stage.{Stage}
 use Rattle.request_text.specs.declared.line_reader.Stage.TheVariants.{Open, Last, Over, Exhausted}
 use Rattle.request_text.specs.declared.line_reader.Line.{Line}
+use Rattle.request_text.specs.declared.line_reader.Told.{Told}
+use Rattle.request_text.specs.declared.line_reader.Told.TheVariants.{Text as Words, Long as TooLong}
+use Rattle.request_text.specs.declared.line_reader.Stop.{Stop}
+use Rattle.request_text.specs.declared.line_reader.Stop.TheVariants.{Fault as AtFault, Spent as AtBound}
 use Rattle.request_text.specs.declared.line_reader.Line.TheVariants.{Text, Long, End, Fault, Spent}
 
--- the line that was answered last, where the last answer was a text; else no bytes
-abbrev pub told : LineReader → List ℕ
-told reader = take reader.line (items reader.window)
+-- the line that was answered last, if the last answer was a text; else no bytes
+abbrev pub answered_line : LineReader → List ℕ
+answered_line reader = take reader.line (items reader.window)
 
 -- the bytes that were taken from a source, and that no answer stands for
 abbrev pub kept : LineReader → List ℕ
@@ -36,7 +41,7 @@ IsFront true front = (401 < length front) × Lacks 10 front
 
 -- What the reader still has to tell, together with what the source has left, is this text. While a long line is
 -- passed over, its front is known no more: any front of more than 401 bytes without a line feed will do. (A line
--- of 400 bytes takes 401 before its line feed where it has a carriage return there.)
+-- of 400 bytes takes 401 before its line feed if it has a carriage return there.)
 pub record Sees (reader : LineReader) (left text : List ℕ) : Type 0 where
   pub front : List ℕ
   pub passed : IsFront reader.long front
@@ -47,15 +52,15 @@ pub record Sees (reader : LineReader) (left text : List ℕ) : Type 0 where
 abbrev pub EndsAtFeed : List ℕ → Type 0
 EndsAtFeed bytes = (front : List ℕ) × (bytes ≡ front ++ 10 ∷ [])
 
--- The line is the first of the text: it stands for a piece at the front of the text, up to a line feed or to the
--- end. The reader sees the rest.
+-- The line is the first of the text: it stands for a piece at the front of the text, up to a line feed, or to the end
+-- of the input, which the reader has then seen. The reader sees the rest.
 pub record Follows (reader : LineReader) (left text line : List ℕ) : Type 0 where
   pub piece : List ℕ
   pub rest : List ℕ
   pub parts : text ≡ piece ++ rest
   pub alone : lines piece ≡ line ∷ []
   pub first : lines text ≡ line ∷ lines rest
-  pub closed : EndsAtFeed piece ⊎ (rest ≡ [])
+  pub closed : EndsAtFeed piece ⊎ HasEnded reader.stage
   pub sees : Sees reader left rest
 
 -- every text that was seen is still seen
@@ -64,8 +69,8 @@ Stays old left new more = (text : List ℕ) → Sees old left text → Sees new 
 
 -- which bytes an answer stands for, for every text that was seen
 abbrev pub Tells : LineReader → List ℕ → LineReader → List ℕ → Line → Type 0
-Tells old left new more (Text n) = (text : List ℕ) → Sees old left text → Follows new more text (told new)
-Tells old left new more Long = (text : List ℕ) → Sees old left text → (line : List ℕ) × (400 < length line) × Follows new more text line
+Tells old left new more (Text n) = (text : List ℕ) → Sees old left text → Follows new more text (answered_line new)
+Tells old left new more Long = (text : List ℕ) → Sees old left text → (line : List ℕ) × (LONGEST_LINE < length line) × Follows new more text line
 Tells old left new more End = (text : List ℕ) → Sees old left text → (text ≡ []) × (more ≡ [])
 Tells old left new more Fault = Stays old left new more
 Tells old left new more Spent = Stays old left new more
@@ -80,34 +85,37 @@ IsSpent reader = reader.stage ≡ Exhausted
 
 -- what is known of the reader after an answer
 abbrev pub Leaves : LineReader → Line → Type 0
-Leaves new (Text n) = (length (told new) ≡ n) × (n ≤ 400)
-Leaves new Long = told new ≡ []
-Leaves new End = IsOver new × (told new ≡ [])
-Leaves new Fault = (told new ≡ []) × (taken new < 2 ^ 40) × Lacks 10 (kept new)
-Leaves new Spent = IsSpent new × (told new ≡ []) × (taken new ≡ 2 ^ 40) × Lacks 10 (kept new)
+Leaves new (Text n) = (length (answered_line new) ≡ n) × (n ≤ LONGEST_LINE)
+Leaves new Long = answered_line new ≡ []
+Leaves new End = IsOver new × (answered_line new ≡ []) × (taken new < MOST_TAKEN)
+Leaves new Fault = (answered_line new ≡ []) × (taken new < MOST_TAKEN) × Lacks 10 (kept new)
+Leaves new Spent = IsSpent new × (answered_line new ≡ []) × (taken new ≡ MOST_TAKEN) × Lacks 10 (kept new)
 
--- a fact of what a source had left and what it has left now, where the source tells
+-- a fact of what a source had left and what it has left now, if the source tells
 abbrev pub Known : Option (List ℕ) → Option (List ℕ) → (List ℕ → List ℕ → Type 0) → Type 0
 Known None after P = ⊤
 Known (Some left) None P = ⊥
 Known (Some left) (Some more) P = P left more
 
--- the fact where the answer is a fault
-abbrev pub OnFault : Line → Type 0 → Type 0
-OnFault (Text n) P = ⊤
-OnFault Long P = ⊤
-OnFault End P = ⊤
-OnFault Fault P = P
-OnFault Spent P = ⊤
-
 -- how many bytes the reader may still answer for, and one more for a long line that is passed over
 abbrev pub ahead : LineReader → ℕ
-ahead reader = (2 ^ 40 - taken reader) + length (kept reader) + (if reader.long then 1 else 0)
+ahead reader = (MOST_TAKEN - taken reader) + length (kept reader) + (if reader.long then 1 else 0)
 
--- a line brings the reader nearer to its end, and no answer takes it away from there
-abbrev pub Nears : ℕ → ℕ → Line → Type 0
-Nears before after (Text n) = after < before
-Nears before after Long = after < before
-Nears before after End = after ≤ before
-Nears before after Fault = after ≤ before
-Nears before after Spent = after ≤ before
+-- by how much an answer brings the reader nearer to its end, at least
+abbrev pub advance : Line → ℕ
+advance (Text n) = max n 1
+advance Long = 1
+advance End = 0
+advance Fault = 0
+advance Spent = 0
+
+-- the answer that stands for a line, or for the end of the input
+abbrev pub line_of : Option Told → Line
+line_of None = End
+line_of (Some (Words n)) = Text n
+line_of (Some TooLong) = Long
+
+-- the answer that is a reason to stop
+abbrev pub stop_of : Stop → Line
+stop_of AtFault = Fault
+stop_of AtBound = Spent

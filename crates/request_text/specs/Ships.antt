@@ -9,7 +9,7 @@ use Rattle.catalog.specs.declared.ships.TheConstants.{UNITS}
 abbrev pub IsOther : Kind → List (List ℕ) → Type 0
 IsOther kind parts = (text : List ℕ) (more : List (List ℕ)) → parts ≡ (kind_word kind ++ (61 ∷ text)) ∷ more → ⊥
 
--- these parts begin with so many of the kind, none of them where it is 0, and others follow
+-- these parts begin with so many of the kind, none of them if it is 0, and others follow
 abbrev pub Begins : Kind → List (List ℕ) → ℕ → List (List ℕ) → Type 0
 Begins kind parts count others = parts ≡ ship_parts (kind ∷ []) (count ∷ []) ++ others
 

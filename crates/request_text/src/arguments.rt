@@ -1,263 +1,204 @@
 // The words of a request after the first, read one by one.
 ghost use Rattle.std.specs.Prelude.{◌≡◌, ◌≤◌, ◌∷◌, ℕ, List, MatchOption};
 ghost use Rattle.std.specs.Fmt.{decimal};
-ghost use Rattle.base_ids.specs.Text.{coord_text, system_text};
+ghost use Rattle.base_ids.specs.Text.{coord_text};
 ghost use Rattle.base_ids.specs.declared.coord.Coord.{Coord};
-ghost use Rattle.base_ids.specs.declared.system.System.{System};
-ghost use Rattle.base_ids.specs.declared.fleet_number.FleetNumber.{FleetNumber};
-ghost use Rattle.catalog.specs.Kinds.{kind_word};
-ghost use Rattle.catalog.specs.Missions.{mission_word};
-ghost use Rattle.catalog.specs.Texts.{ships_text};
-ghost use Rattle.catalog.specs.declared.ships.Ships.{Ships};
-ghost use Rattle.catalog.specs.declared.classes.Building.{Building};
-ghost use Rattle.catalog.specs.declared.classes.Technology.{Technology};
-ghost use Rattle.catalog.specs.declared.classes.Unit.{Unit};
-ghost use Rattle.catalog.specs.declared.classes.Work.{Work};
-ghost use Rattle.catalog.specs.declared.mission.Mission.{Mission};
-ghost use Rattle.catalog.specs.declared.settings.Count.{Count};
-ghost use Rattle.catalog.specs.declared.settings.SpeedSetting.{SpeedSetting};
-ghost use Rattle.catalog.specs.declared.settings.Tenths.{Tenths};
 ghost use Rattle.catalog.specs.declared.amounts.Amounts.{Amounts};
+ghost use Rattle.catalog.specs.declared.amounts.TheConstants.{CAP};
+ghost use Rattle.catalog.specs.declared.settings.SpeedSetting.{SpeedSetting};
+ghost use Rattle.catalog.specs.declared.ships.Ships.{Ships};
 ghost use Rattle.request_text.specs.Flights.{flight_words};
 
 use crate::coordinates::{coord, system};
 use crate::ship_counts::ships;
-use base_ids::{Coord, FleetNumber, System};
+use base_ids::{Coord, FleetNumber, LAST_NUMBER, System};
 use base_text::{Parts, number, positive_number};
 use catalog::{
-    Amounts, Building, CAP, Count, Mission, Ships, SpeedSetting, Technology, Tenths, UNITS, Unit,
-    Work,
+    Amounts, Building, CAP, Class, Count, Mission, Ships, SpeedSetting, Technology, Tenths, UNITS,
+    Unit, Work,
 };
 
-/// Takes a coordinate. `None` exactly where the next word spells none.
-pub fn next_coord(words: &mut Parts) -> Option<Coord>
-    ensures { MatchOption result
-        ((at : Coord) (more : List (List ℕ)) → words.old ≡ coord_text at ∷ more → ⊥)
-        (λ at. words.old ≡ coord_text at ∷ words.new) }
-{
-    let Some(word) = words.next() else {
-        return None;
-    };
-    let Some(at) = coord(word) else {
-        return None;
-    };
-    Some(at)
+/// What one word spells.
+pub trait OneWord: Sized {
+    // the word of a value
+    ghost spelling: { Self → List ℕ };
+
+    /// The value that a word spells. `None` exactly if it spells none.
+    fn of_word(word: &[u8]) -> Option<Self>
+        ensures { MatchOption result
+            ((value : Self) → word.now ≡ spelling value → ⊥)
+            (λ value. word.now ≡ spelling value) };
 }
 
-/// Takes a building. `None` exactly where the next word spells none.
-pub fn next_building(words: &mut Parts) -> Option<Building>
+/// Takes the next word as a value. `None` exactly if it spells none.
+pub fn next<T: OneWord>(words: &mut Parts) -> Option<T>
     ensures { MatchOption result
-        ((building : Building) (more : List (List ℕ)) → words.old ≡ kind_word building.kind ∷ more → ⊥)
-        (λ building. words.old ≡ kind_word building.kind ∷ words.new) }
+        ((value : T) (more : List (List ℕ)) → words.old ≡ T.spelling value ∷ more → ⊥)
+        (λ value. words.old ≡ T.spelling value ∷ words.new) }
 {
-    let Some(word) = words.next() else {
-        return None;
-    };
-    let Some(building) = Building::read(word) else {
-        return None;
-    };
-    Some(building)
+    let word = words.next()?;
+    T::of_word(word)
 }
 
-/// Takes a technology. `None` exactly where the next word spells none.
-pub fn next_technology(words: &mut Parts) -> Option<Technology>
-    ensures { MatchOption result
-        ((technology : Technology) (more : List (List ℕ)) → words.old ≡ kind_word technology.kind ∷ more → ⊥)
-        (λ technology. words.old ≡ kind_word technology.kind ∷ words.new) }
-{
-    let Some(word) = words.next() else {
-        return None;
-    };
-    let Some(technology) = Technology::read(word) else {
-        return None;
-    };
-    Some(technology)
+impl OneWord for Coord {
+    ghost use Rattle.base_ids.specs.Text.{coord_text};
+
+    ghost spelling = { coord_text };
+
+    fn of_word(word: &[u8]) -> Option<Coord> {
+        coord(word)
+    }
 }
 
-/// Takes a ship, the satellite or a defence. `None` exactly where the next word spells none.
-pub fn next_unit(words: &mut Parts) -> Option<Unit>
-    ensures { MatchOption result
-        ((unit : Unit) (more : List (List ℕ)) → words.old ≡ kind_word unit.kind ∷ more → ⊥)
-        (λ unit. words.old ≡ kind_word unit.kind ∷ words.new) }
-{
-    let Some(word) = words.next() else {
-        return None;
-    };
-    let Some(unit) = Unit::read(word) else {
-        return None;
-    };
-    Some(unit)
+impl OneWord for System {
+    ghost use Rattle.base_ids.specs.Text.{system_text};
+
+    ghost spelling = { system_text };
+
+    fn of_word(word: &[u8]) -> Option<System> {
+        system(word)
+    }
 }
 
-/// Takes a work. `None` exactly where the next word spells none.
-pub fn next_work(words: &mut Parts) -> Option<Work>
-    ensures { MatchOption result
-        ((work : Work) (more : List (List ℕ)) → words.old ≡ kind_word work.kind ∷ more → ⊥)
-        (λ work. words.old ≡ kind_word work.kind ∷ words.new) }
-{
-    let Some(word) = words.next() else {
-        return None;
-    };
-    let Some(work) = Work::read(word) else {
-        return None;
-    };
-    Some(work)
+impl OneWord for FleetNumber {
+    ghost use Rattle.std.specs.Fmt.{decimal};
+
+    ghost spelling = { λ fleet. decimal fleet.f };
+
+    fn of_word(word: &[u8]) -> Option<FleetNumber> {
+        let f = positive_number(word, LAST_NUMBER)?;
+        Some(FleetNumber { f })
+    }
 }
 
-/// Takes a mission. `None` exactly where the next word spells none.
-pub fn next_mission(words: &mut Parts) -> Option<Mission>
-    ensures { MatchOption result
-        ((mission : Mission) (more : List (List ℕ)) → words.old ≡ mission_word mission ∷ more → ⊥)
-        (λ mission. words.old ≡ mission_word mission ∷ words.new) }
-{
-    let Some(word) = words.next() else {
-        return None;
-    };
-    let Some(mission) = Mission::read(word) else {
-        return None;
-    };
-    Some(mission)
+impl OneWord for Building {
+    ghost use Rattle.catalog.specs.Kinds.{kind_word};
+
+    ghost spelling = { λ building. kind_word building.kind };
+
+    fn of_word(word: &[u8]) -> Option<Building> {
+        Building::read(word)
+    }
 }
 
-/// Takes a speed setting. `None` exactly where the next word spells none.
-pub fn next_setting(words: &mut Parts) -> Option<SpeedSetting>
-    ensures { MatchOption result
-        ((setting : SpeedSetting) (more : List (List ℕ)) → words.old ≡ decimal setting.p ∷ more → ⊥)
-        (λ setting. words.old ≡ decimal setting.p ∷ words.new) }
-{
-    let Some(word) = words.next() else {
-        return None;
-    };
-    let Some(n) = positive_number(word, 10) else {
-        return None;
-    };
-    Some(SpeedSetting { p: n as u8 })
+impl OneWord for Technology {
+    ghost use Rattle.catalog.specs.Kinds.{kind_word};
+
+    ghost spelling = { λ technology. kind_word technology.kind };
+
+    fn of_word(word: &[u8]) -> Option<Technology> {
+        Technology::read(word)
+    }
 }
 
-/// Takes tenths. `None` exactly where the next word spells none.
-pub fn next_tenths(words: &mut Parts) -> Option<Tenths>
-    ensures { MatchOption result
-        ((tenths : Tenths) (more : List (List ℕ)) → words.old ≡ decimal tenths.n ∷ more → ⊥)
-        (λ tenths. words.old ≡ decimal tenths.n ∷ words.new) }
-{
-    let Some(word) = words.next() else {
-        return None;
-    };
-    let Some(n) = number(word, 10) else {
-        return None;
-    };
-    Some(Tenths { n: n as u8 })
+impl OneWord for Unit {
+    ghost use Rattle.catalog.specs.Kinds.{kind_word};
+
+    ghost spelling = { λ unit. kind_word unit.kind };
+
+    fn of_word(word: &[u8]) -> Option<Unit> {
+        Unit::read(word)
+    }
 }
 
-/// Takes a count of units. `None` exactly where the next word spells none.
-pub fn next_count(words: &mut Parts) -> Option<Count>
-    ensures { MatchOption result
-        ((count : Count) (more : List (List ℕ)) → words.old ≡ decimal count.n ∷ more → ⊥)
-        (λ count. words.old ≡ decimal count.n ∷ words.new) }
-{
-    let Some(word) = words.next() else {
-        return None;
-    };
-    let Some(n) = positive_number(word, u64::from(UNITS)) else {
-        return None;
-    };
-    Some(Count { n: n as u32 })
+impl OneWord for Work {
+    ghost use Rattle.catalog.specs.Kinds.{kind_word};
+
+    ghost spelling = { λ work. kind_word work.kind };
+
+    fn of_word(word: &[u8]) -> Option<Work> {
+        Work::read(word)
+    }
 }
 
-/// Takes the number of a fleet. `None` exactly where the next word spells none.
-pub fn next_fleet(words: &mut Parts) -> Option<FleetNumber>
-    ensures { MatchOption result
-        ((fleet : FleetNumber) (more : List (List ℕ)) → words.old ≡ decimal fleet.f ∷ more → ⊥)
-        (λ fleet. words.old ≡ decimal fleet.f ∷ words.new) }
-{
-    let Some(word) = words.next() else {
-        return None;
-    };
-    let Some(n) = positive_number(word, (1 << 40) - 1) else {
-        return None;
-    };
-    Some(FleetNumber { f: n })
+impl OneWord for Mission {
+    ghost use Rattle.catalog.specs.Missions.{mission_word};
+
+    ghost spelling = { mission_word };
+
+    fn of_word(word: &[u8]) -> Option<Mission> {
+        Mission::read(word)
+    }
 }
 
-/// Takes an amount of one resource. `None` exactly where the next word spells none up to `CAP`.
+impl OneWord for Count {
+    ghost use Rattle.std.specs.Fmt.{decimal};
+
+    ghost spelling = { λ count. decimal count.n };
+
+    fn of_word(word: &[u8]) -> Option<Count> {
+        let n = positive_number(word, u64::from(UNITS))?;
+        Some(Count { n: n as u32 })
+    }
+}
+
+impl OneWord for Tenths {
+    ghost use Rattle.std.specs.Fmt.{decimal};
+
+    ghost spelling = { λ tenths. decimal tenths.n };
+
+    fn of_word(word: &[u8]) -> Option<Tenths> {
+        let n = number(word, 10)?;
+        Some(Tenths { n: n as u8 })
+    }
+}
+
+impl OneWord for SpeedSetting {
+    ghost use Rattle.std.specs.Fmt.{decimal};
+
+    ghost spelling = { λ setting. decimal setting.p };
+
+    fn of_word(word: &[u8]) -> Option<SpeedSetting> {
+        let p = positive_number(word, 10)?;
+        Some(SpeedSetting { p: p as u8 })
+    }
+}
+
+impl OneWord for Ships {
+    ghost use Rattle.catalog.specs.Texts.{ships_text};
+
+    ghost spelling = { λ ships. ships_text ships.n };
+
+    fn of_word(word: &[u8]) -> Option<Ships> {
+        ships(word)
+    }
+}
+
+/// Takes an amount of one resource. `None` exactly if the next word spells none up to `CAP`.
 fn next_amount(words: &mut Parts) -> Option<u64>
     ensures { MatchOption result
         ((n : ℕ) (more : List (List ℕ)) → n ≤ CAP → words.old ≡ decimal n ∷ more → ⊥)
         (λ n. (n ≤ CAP) × (words.old ≡ decimal n ∷ words.new)) }
 {
-    let Some(word) = words.next() else {
-        return None;
-    };
-    let Some(n) = number(word, CAP) else {
-        return None;
-    };
+    let word = words.next()?;
+    let n = number(word, CAP)?;
     Some(n)
 }
 
-/// Takes amounts of metal, crystal and deuterium, which are three words. `None` exactly where the next words spell none.
+/// Takes amounts of metal, crystal and deuterium, which are three words. `None` exactly if the next words spell none.
 pub fn next_amounts(words: &mut Parts) -> Option<Amounts>
     ensures { MatchOption result
         ((cargo : Amounts) (more : List (List ℕ)) → words.old ≡ decimal cargo.m ∷ decimal cargo.c ∷ decimal cargo.d ∷ more → ⊥)
         (λ cargo. words.old ≡ decimal cargo.m ∷ decimal cargo.c ∷ decimal cargo.d ∷ words.new) }
 {
-    let Some(m) = next_amount(words) else {
-        return None;
-    };
-    let Some(c) = next_amount(words) else {
-        return None;
-    };
-    let Some(d) = next_amount(words) else {
-        return None;
-    };
+    let m = next_amount(words)?;
+    let c = next_amount(words)?;
+    let d = next_amount(words)?;
     Some(Amounts { m, c, d })
 }
 
-/// Takes ships. `None` exactly where the next word spells none.
-pub fn next_ships(words: &mut Parts) -> Option<Ships>
-    ensures { MatchOption result
-        ((ships : Ships) (more : List (List ℕ)) → words.old ≡ ships_text ships.n ∷ more → ⊥)
-        (λ ships. words.old ≡ ships_text ships.n ∷ words.new) }
-{
-    let Some(word) = words.next() else {
-        return None;
-    };
-    let Some(ships) = ships(word) else {
-        return None;
-    };
-    Some(ships)
-}
-
-/// Takes a system. `None` exactly where the next word spells none.
-pub fn next_system(words: &mut Parts) -> Option<System>
-    ensures { MatchOption result
-        ((at : System) (more : List (List ℕ)) → words.old ≡ system_text at ∷ more → ⊥)
-        (λ at. words.old ≡ system_text at ∷ words.new) }
-{
-    let Some(word) = words.next() else {
-        return None;
-    };
-    let Some(at) = system(word) else {
-        return None;
-    };
-    Some(at)
-}
-
-/// Takes where a fleet leaves and where it flies. `None` exactly where the next two words are not two coordinates.
+/// Takes where a fleet leaves and where it flies. `None` exactly if the next two words are not two coordinates.
 pub fn next_route(words: &mut Parts) -> Option<(Coord, Coord)>
     ensures { MatchOption result
         ((from to : Coord) (more : List (List ℕ)) → words.old ≡ coord_text from ∷ coord_text to ∷ more → ⊥)
         (λ route. words.old ≡ coord_text route.0 ∷ coord_text route.1 ∷ words.new) }
 {
-    let Some(from) = next_coord(words) else {
-        return None;
-    };
-    let Some(to) = next_coord(words) else {
-        return None;
-    };
+    let from = next(words)?;
+    let to = next(words)?;
     Some((from, to))
 }
 
-/// Takes the speed setting, the ships and the cargo of a fleet, which are five words. `None` exactly where the next words
+/// Takes the speed setting, the ships and the cargo of a fleet, which are five words. `None` exactly if the next words
 /// spell none.
 pub fn next_flight(words: &mut Parts) -> Option<(SpeedSetting, Ships, Amounts)>
     ensures { MatchOption result
@@ -265,14 +206,8 @@ pub fn next_flight(words: &mut Parts) -> Option<(SpeedSetting, Ships, Amounts)>
         → words.old ≡ flight_words setting ships cargo more → ⊥)
         (λ flight. words.old ≡ flight_words flight.0 flight.1 flight.2 words.new) }
 {
-    let Some(setting) = next_setting(words) else {
-        return None;
-    };
-    let Some(ships) = next_ships(words) else {
-        return None;
-    };
-    let Some(cargo) = next_amounts(words) else {
-        return None;
-    };
+    let setting = next(words)?;
+    let ships = next(words)?;
+    let cargo = next_amounts(words)?;
     Some((setting, ships, cargo))
 }

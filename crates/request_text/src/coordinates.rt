@@ -7,28 +7,18 @@ ghost use Rattle.base_ids.specs.declared.system.System.{System};
 use base_ids::{Coord, Player, System};
 use base_text::{cut, positive_number};
 
-/// The coordinate that a word spells, as `1:499:15`. `None` exactly where it spells none.
+/// The coordinate that a word spells, as `1:499:15`. `None` exactly if it spells none.
 #[tactic(auto, using(base_text::proofs::Joining::colon_numbers))]
 pub fn coord(word: &[u8]) -> Option<Coord>
     ensures { MatchOption result
         ((at : Coord) → word.now ≡ coord_text at → ⊥)
         (λ at. word.now ≡ coord_text at) }
 {
-    let Some((galaxy, rest)) = cut(word, b':') else {
-        return None;
-    };
-    let Some((system, position)) = cut(rest, b':') else {
-        return None;
-    };
-    let Some(g) = positive_number(galaxy, 9) else {
-        return None;
-    };
-    let Some(s) = positive_number(system, 499) else {
-        return None;
-    };
-    let Some(p) = positive_number(position, 15) else {
-        return None;
-    };
+    let (galaxy, rest) = cut(word, b':')?;
+    let (system, position) = cut(rest, b':')?;
+    let g = positive_number(galaxy, 9)?;
+    let s = positive_number(system, 499)?;
+    let p = positive_number(position, 15)?;
     Some(Coord {
         g: g as u8,
         s: s as u16,
@@ -36,34 +26,26 @@ pub fn coord(word: &[u8]) -> Option<Coord>
     })
 }
 
-/// The player whose number a word spells. `None` exactly where it spells none from 1 to 65535.
+/// The player whose number a word spells. `None` exactly if it spells none from 1 to 65535.
 pub fn player(word: &[u8]) -> Option<Player>
     ensures { MatchOption result
         ((found : Player) → word.now ≡ player_text found → ⊥)
         (λ found. word.now ≡ player_text found) }
 {
-    let Some(k) = positive_number(word, 65535) else {
-        return None;
-    };
+    let k = positive_number(word, 65535)?;
     Some(Player { k: k as u32 })
 }
 
-/// The system that a word spells, as `1:499`. `None` exactly where it spells none.
+/// The system that a word spells, as `1:499`. `None` exactly if it spells none.
 #[tactic(auto, using(crate::proofs::Colons::systems))]
 pub fn system(word: &[u8]) -> Option<System>
     ensures { MatchOption result
         ((at : System) → word.now ≡ system_text at → ⊥)
         (λ at. word.now ≡ system_text at) }
 {
-    let Some((galaxy, number)) = cut(word, b':') else {
-        return None;
-    };
-    let Some(g) = positive_number(galaxy, 9) else {
-        return None;
-    };
-    let Some(s) = positive_number(number, 499) else {
-        return None;
-    };
+    let (galaxy, number) = cut(word, b':')?;
+    let g = positive_number(galaxy, 9)?;
+    let s = positive_number(number, 499)?;
     Some(System {
         g: g as u8,
         s: s as u16,

@@ -63,7 +63,7 @@ impl Form {
         }
     }
 
-    /// The form of a word. `None` exactly where it is of none.
+    /// The form of a word. `None` exactly if it is of none.
     #[tactic(auto, using(crate::proofs::Heads::read_whole))]
     pub fn read(word: &[u8]) -> Option<Form>
         ensures { MatchOption result

@@ -19,7 +19,7 @@ pub use coordinates::{coord, player, system};
 pub use entry::Entry;
 pub use form::Form;
 pub use laws::spell_once;
-pub use line_reader::{LONGEST_LINE, Line, LineReader, MOST_TAKEN};
+pub use line_reader::{LONGEST_LINE, Line, LineReader, MOST_TAKEN, Stop, Told};
 pub use request::Request;
 pub use ship_counts::ships;
 

@@ -1,9 +1,10 @@
 // Reads the lines of a source piece by piece, in a buffer of one size.
-ghost use Rattle.std.specs.Prelude.{◌≡◌, ℕ, ◌+◌, ◌^◌, ◌<◌, ◌≤◌, ◌≢◌, List, [], length, take, drop, slice_index, false, IfOk};
+ghost use Rattle.std.specs.Prelude.{◌≡◌, ℕ, ◌+◌, ◌<◌, ◌≤◌, ◌≢◌, ◌⊎◌, List, [], length, take, drop, slice_index, false, IfOk, MatchResult};
 ghost use Rattle.base_text.specs.Parts.{Lacks};
 ghost use Rattle.ports.specs.Causes.{Rose};
 ghost use Rattle.request_text.specs.Windows.{items};
-ghost use Rattle.request_text.specs.declared.line_reader.Stage.TheVariants.{Over, Exhausted};
+ghost use Rattle.request_text.specs.declared.line_reader.TheConstants.{LONGEST_LINE, MOST_TAKEN};
+ghost use Rattle.request_text.specs.declared.line_reader.Stage.TheVariants.{Last, Over, Exhausted};
 
 mod feeds;
 mod window;
@@ -34,6 +35,42 @@ pub enum Line {
     Spent,
 }
 
+/// A line that a reader told.
+#[derive(Clone, Copy, Debug, PartialEq, Eq)]
+pub enum Told {
+    /// It has so many bytes, at most `LONGEST_LINE`; `LineReader::line` gives it.
+    Text(usize),
+    /// It is longer, and was passed over.
+    Long,
+}
+
+/// Why a reader tells no line.
+#[derive(Clone, Copy, Debug, PartialEq, Eq)]
+pub enum Stop {
+    /// A read failed.
+    Fault,
+    /// `MOST_TAKEN` bytes were taken with no end seen.
+    Spent,
+}
+
+impl Line {
+    ghost use Rattle.std.specs.Prelude.{◌≡◌, MatchResult};
+    ghost use Rattle.request_text.specs.LineReading.{line_of, stop_of};
+
+    /// The line that was told, or `None` at the end of the input. It fails if the reader stopped before.
+    pub fn told(self) -> Result<Option<Told>, Stop>
+        ensures { MatchResult result (λ told. self ≡ line_of told) (λ stop. self ≡ stop_of stop) }
+    {
+        match self {
+            Line::Text(count) => Ok(Some(Told::Text(count))),
+            Line::Long => Ok(Some(Told::Long)),
+            Line::End => Ok(None),
+            Line::Fault => Err(Stop::Fault),
+            Line::Spent => Err(Stop::Spent),
+        }
+    }
+}
+
 // The most bytes before the line feed of a line that is a text: one of them may be a carriage return.
 const MOST_BEFORE_FEED: usize = LONGEST_LINE + 1;
 
@@ -57,7 +94,7 @@ enum Refilled {
 }
 
 /// Reads the lines of a source, one a call, in memory that does not grow. A line ends at a line feed, and one
-/// carriage return just before that is no part of the line. A last line without a line feed counts where it is
+/// carriage return just before that is no part of the line. A last line without a line feed counts if it is
 /// not empty, and keeps all its bytes.
 #[derive(Drop)]
 pub struct LineReader {
@@ -69,24 +106,25 @@ pub struct LineReader {
     stage: Stage,
     ghost line_within: { line ≤ length (items window) },
     ghost answered_within: { answered ≤ length (items window) },
-    ghost most: { taken ≤ 2 ^ 40 },
+    ghost most: { taken ≤ MOST_TAKEN },
+    ghost ended: { (stage ≡ Last) ⊎ (stage ≡ Over) → taken < MOST_TAKEN },
     ghost over: { stage ≡ Over → line ≡ 0 },
-    ghost exhausted: { stage ≡ Exhausted → (line ≡ 0) × (taken ≡ 2 ^ 40)
+    ghost exhausted: { stage ≡ Exhausted → (line ≡ 0) × (taken ≡ MOST_TAKEN)
         × ((k : ℕ) → k < length (drop answered (items window)) → slice_index (drop answered (items window)) k ≢ 10) },
 }
 
 impl LineReader {
     ghost use Rattle.request_text.specs.Feeds.{IsFirstFeed};
-    ghost use Rattle.request_text.specs.LineReading.{told, kept, taken, HasEnded, Sees, Stays, Tells, IsOver, IsSpent, Leaves, Known, OnFault, ahead, Nears};
+    ghost use Rattle.request_text.specs.LineReading.{answered_line, kept, taken, HasEnded, Sees, Stays, Tells, IsOver, IsSpent, Leaves, Known, advance, ahead};
     ghost use Rattle.request_text.specs.LineSteps.{Refills, Answers, IsReading};
 
     /// A reader that has taken no byte yet, with all the memory that it needs.
     pub fn new(alloc: Global) -> Result<LineReader, AllocError>
         ensures sees { IfOk result (λ r. (left : List ℕ) → Sees r left left) }
         ensures only { IfOk result (λ r. (left text : List ℕ) → Sees r left text → text ≡ left) }
-        ensures told { IfOk result (λ r. told r ≡ []) }
+        ensures told { IfOk result (λ r. answered_line r ≡ []) }
         ensures taken { IfOk result (λ r. taken r ≡ 0) }
-        ensures ahead { IfOk result (λ r. ahead r ≡ 2 ^ 40) }
+        ensures ahead { IfOk result (λ r. ahead r ≡ MOST_TAKEN) }
     {
         let window = Window::new(alloc)?;
         Ok(LineReader {
@@ -99,9 +137,9 @@ impl LineReader {
         })
     }
 
-    /// The line that was answered last, where the last answer was a text. Else no bytes.
+    /// The line that was answered last, if the last answer was a text. Else no bytes.
     pub fn line(&self) -> &[u8]
-        ensures { result.now ≡ told self.now }
+        ensures { result.now ≡ answered_line self.now }
     {
         &self.window.as_slice()[..self.line]
     }
@@ -114,10 +152,12 @@ impl LineReader {
         ensures counts { Known (S.left src.old) (S.left src.new)
             (λ left more. taken self.new + length more ≡ taken self.old + length left) }
         ensures grows { taken self.old ≤ taken self.new }
-        ensures most { taken self.new ≤ 2 ^ 40 }
-        ensures nears { Nears (ahead self.old) (ahead self.new) result }
+        ensures most { taken self.new ≤ MOST_TAKEN }
+        ensures nears { ahead self.new + advance result ≤ ahead self.old }
         ensures faults { S.faults src.old ≤ S.faults src.new }
-        ensures cause { OnFault result (Rose (S.faults src.old) (S.faults src.new)) }
+        ensures cause { result ≡ Line.Fault → Rose (S.faults src.old) (S.faults src.new) }
+        ensures stands { result ≢ Line.Fault → S.faults src.new ≡ S.faults src.old }
+        ensures buffered { (Lacks 10 (kept self.old) → ⊥) → src.new ≡ src.old }
         ensures over { IsOver self.old → (result ≡ Line.End) × (self.new ≡ self.old) × (src.new ≡ src.old) }
         ensures spent { IsSpent self.old → (result ≡ Line.Spent) × (self.new ≡ self.old) × (src.new ≡ src.old) }
     {
@@ -142,7 +182,7 @@ impl LineReader {
         Line::End
     }
 
-    // Answers the next line, where the reader may read on.
+    // Answers the next line, if the reader may read on.
     fn read_line<S: Source>(&mut self, src: &mut S) -> Line
         requires { self.old.stage ≡ Stage.Open }
         ensures tells { Known (S.left src.old) (S.left src.new) (λ left more. Tells self.old left self.new more result) }
@@ -150,9 +190,11 @@ impl LineReader {
         ensures counts { Known (S.left src.old) (S.left src.new)
             (λ left more. taken self.new + length more ≡ taken self.old + length left) }
         ensures grows { taken self.old ≤ taken self.new }
-        ensures nears { Nears (ahead self.old) (ahead self.new) result }
+        ensures nears { ahead self.new + advance result ≤ ahead self.old }
         ensures faults { S.faults src.old ≤ S.faults src.new }
-        ensures cause { OnFault result (Rose (S.faults src.old) (S.faults src.new)) }
+        ensures cause { result ≡ Line.Fault → Rose (S.faults src.old) (S.faults src.new) }
+        ensures stands { result ≢ Line.Fault → S.faults src.new ≡ S.faults src.old }
+        ensures buffered { (Lacks 10 (kept self.old) → ⊥) → src.new ≡ src.old }
     {
         self.pass_answered();
         let mut clean = 0;
@@ -196,23 +238,24 @@ impl LineReader {
         requires reads { IsReading self.old }
         requires feed { IsFirstFeed (kept self.old) place }
         ensures tells { (left : List ℕ) → Tells self.old left self.new left result }
-        ensures unfailed { OnFault result ⊥ }
+        ensures unfailed { result ≢ Line.Fault }
         ensures leaves { Leaves self.new result }
-        ensures nears { Nears (ahead self.old) (ahead self.new) result }
+        ensures nears { ahead self.new + advance result ≤ ahead self.old }
         ensures taken { taken self.new ≡ taken self.old }
     {
         let count = line_length(&self.kept()[..place]);
         self.answer(count, place + 1)
     }
 
-    // Answers the last line, or the end where there is none.
+    // Answers the last line, or the end if there is none.
     fn last_line(&mut self) -> Line
         requires reads { IsReading self.old }
         requires unbroken { Lacks 10 (kept self.old) }
+        requires below { taken self.old < MOST_TAKEN }
         ensures tells { Tells self.old [] self.new [] result }
-        ensures unfailed { OnFault result ⊥ }
+        ensures unfailed { result ≢ Line.Fault }
         ensures leaves { Leaves self.new result }
-        ensures nears { Nears (ahead self.old) (ahead self.new) result }
+        ensures nears { ahead self.new + advance result ≤ ahead self.old }
         ensures taken { taken self.new ≡ taken self.old }
     {
         let count = self.kept().len();
@@ -233,7 +276,7 @@ impl LineReader {
         requires going { self.old.stage ≢ Stage.Exhausted }
         requires first { self.old.stage ≢ Stage.Over }
         ensures answers { Answers self.old count self.new result }
-        ensures unfailed { OnFault result ⊥ }
+        ensures unfailed { result ≢ Line.Fault }
         ensures leaves { Leaves self.new result }
         ensures kept { kept self.new ≡ drop through (kept self.old) }
         ensures short { self.new.long ≡ false }
@@ -267,7 +310,7 @@ impl LineReader {
         }
     }
 
-    // Reads behind the bytes that are kept, and marks where no more may be taken.
+    // Reads behind the bytes that are kept, and notes if no more may be taken.
     fn refill<S: Source>(&mut self, src: &mut S) -> Refilled
         requires reads { IsReading self.old }
         requires short { length (kept self.old) ≤ 401 }

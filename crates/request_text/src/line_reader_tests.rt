@@ -1,18 +1,19 @@
 // What no clause says: a reader over sources in memory, run; and a caller, proved.
-ghost use Rattle.std.specs.Prelude.{◌≡◌, ◌≤◌, ◌^◌, ◌++◌, ℕ, List, [], length, MatchResult};
+ghost use Rattle.std.specs.Prelude.{◌≡◌, ◌≤◌, ◌++◌, ℕ, List, [], length, MatchResult};
 ghost use Rattle.std.specs.Str.Lines.{lines};
 ghost use Rattle.base_text.specs.Parts.{Lacks};
 ghost use Rattle.request_text.specs.LineReading.{ahead, Known, Sees};
+ghost use Rattle.request_text.specs.declared.line_reader.TheConstants.{MOST_TAKEN};
 
-use crate::{Line, LineReader};
+use crate::{Line, LineReader, MOST_TAKEN, Stop, Told};
 use ports::{MemorySource, Source};
 use std::process::Abort;
 use std::test::Fail;
 
-// How many lines a reader answers: all that it sees, or those that are whole where a read fails or the reader may
+// How many lines a reader answers: all that it sees, or those that are whole if a read fails or the reader may
 // take no more.
 fn count_lines<S: Source>(reader: &mut LineReader, src: &mut S) -> Result<u64, u64>
-    requires { ahead reader.old ≤ 2 ^ 40 }
+    requires { ahead reader.old ≤ MOST_TAKEN }
     ensures { Known (S.left src.old) (S.left src.new) (λ left more. (text : List ℕ) → Sees reader.old left text → MatchResult result
         (λ n. (more ≡ []) × (n ≡ length (lines text)))
         (λ n. (said pending : List ℕ) × (text ≡ said ++ (pending ++ more)) × Lacks 10 pending × (n ≡ length (lines said)))) }
@@ -130,6 +131,38 @@ fn a_reader_reads_on_after_a_fault(rt: HostRuntime) -> Result<(), Fail> {
     let mut reader = LineReader::new(rt.alloc())?;
     expect_answers(&rt, &mut reader, &mut source, &want);
     assert_eq!(rt; source.faults, 3);
+    Ok(())
+}
+
+#[test]
+fn an_answer_is_a_line_the_end_or_a_stop(rt: HostRuntime) {
+    let cases: [(Line, Result<Option<Told>, Stop>); 5] = [
+        (Line::Text(7), Ok(Some(Told::Text(7)))),
+        (Line::Long, Ok(Some(Told::Long))),
+        (Line::End, Ok(None)),
+        (Line::Fault, Err(Stop::Fault)),
+        (Line::Spent, Err(Stop::Spent)),
+    ];
+    for (line, want) in cases {
+        assert_eq!(rt; line.told(), want);
+    }
+    assert_eq!(rt; MOST_TAKEN, 1_099_511_627_776);
+}
+
+#[test]
+fn lines_that_are_kept_are_told_without_a_read(rt: HostRuntime) -> Result<(), Fail> {
+    let mut source = MemorySource::new(b"first\nsecond\nlast", &[2]);
+    let mut reader = LineReader::new(rt.alloc())?;
+    let want: [(Line, u64); 5] = [
+        (Line::Text(5), 1),
+        (Line::Text(6), 1),
+        (Line::Fault, 2),
+        (Line::Text(4), 3),
+        (Line::End, 3),
+    ];
+    for (line, calls) in want {
+        assert_eq!(rt; (reader.next(&mut source), source.calls), (line, calls));
+    }
     Ok(())
 }
 

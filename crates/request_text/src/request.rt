@@ -27,13 +27,13 @@ pub enum Request {
     Build(Coord, Building),
     /// `research C TECH`: the next level of a technology, at the lab of the planet at C.
     Research(Coord, Technology),
-    /// `yard C UNIT N`: N ships, satellites or defences.
+    /// `yard C UNIT COUNT`: so many ships, satellites or defences.
     Yard(Coord, Unit, Count),
-    /// `set C WORK N`: a work is to run at N tenths.
+    /// `set C WORK TENTHS`: a work is to run at so many tenths.
     Set(Coord, Work, Tenths),
-    /// `send A B MISSION P SHIPS M C D`: ships with a cargo leave A for B at a speed setting of P tenths.
+    /// `send A B MISSION SETTING SHIPS METAL CRYSTAL DEUTERIUM`: ships with a cargo leave A for B at a speed setting in tenths.
     Send(Coord, Coord, Mission, SpeedSetting, Ships, Amounts),
-    /// `join F A B P SHIPS M C D`: ships with a cargo leave A for B and arrive with the attack of group F.
+    /// `join F A B SETTING SHIPS METAL CRYSTAL DEUTERIUM`: ships with a cargo leave A for B and arrive with the attack of group F.
     Join(FleetNumber, Coord, Coord, SpeedSetting, Ships, Amounts),
     /// `recall F`: the caller's fleet F turns back.
     Recall(FleetNumber),
@@ -45,7 +45,7 @@ impl Request {
     ghost use Rattle.request_text.specs.Words.{form_of, request_text, request_words};
     ghost use Rattle.request_text.specs.declared.request.Request.{Request};
 
-    /// The request that a text spells. `None` exactly where it spells none.
+    /// The request that a text spells. `None` exactly if it spells none.
     ///
     /// It takes no memory, and reads each byte a bounded number of times.
     pub fn read(line: &[u8]) -> Option<Request>
@@ -57,7 +57,7 @@ impl Request {
         next_request(&mut words)
     }
 
-    /// Appends the text of the request, without a line feed. It fails only where memory runs out, and then appends nothing.
+    /// Appends the text of the request, without a line feed. It fails only if memory runs out, and then appends nothing.
     pub fn write(&self, alloc: Global, out: &mut Bytes) -> Result<(), AllocError>
         ensures ok { OnOk result (out.new ≡ out.old ++ request_text self.now) }
         ensures err { OnErr result (out.new ≡ out.old) }
@@ -113,22 +113,16 @@ impl fmt::Display for Request {
     }
 }
 
-/// Takes all words that are left as those of a request. `None` exactly where they spell none.
+/// Takes all words that are left as those of a request. `None` exactly if they spell none.
 #[tactic(auto, using(crate::proofs::Spelled::heading))]
 pub fn next_request(words: &mut Parts) -> Option<Request>
     ensures { MatchOption result
         ((req : Request) → words.old ≡ request_words req → ⊥)
         (λ req. words.old ≡ request_words req) }
 {
-    let Some(word) = words.next() else {
-        return None;
-    };
-    let Some(form) = Form::read(word) else {
-        return None;
-    };
-    let Some(req) = arguments_of(form, words) else {
-        return None;
-    };
+    let word = words.next()?;
+    let form = Form::read(word)?;
+    let req = arguments_of(form, words)?;
     Some(req)
 }
 

@@ -1,6 +1,6 @@
 pub mod Maps
 pub mod Once
-pub mod Standing
+pub mod Listing
 pub mod Steps
 pub mod Talks
 pub mod Worlds

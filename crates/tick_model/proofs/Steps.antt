@@ -10,14 +10,15 @@ use Rattle.base_ids.specs.declared.player.Player.{Player}
 use Rattle.base_ids.specs.declared.cell_id.CellId.{CellId}
 use Rattle.base_ids.specs.declared.cell_id.CellId.TheVariants.{Account, Planet}
 use Rattle.request_text.specs.declared.request.Request.{Request}
-use Rattle.request_text.specs.declared.request.Request.TheVariants.{Planet as PlanetOf}
-use Rattle.tick_model.specs.Asking.{Asks, brought}
+use Rattle.request_text.specs.declared.request.Request.TheVariants.{Planet as PlanetOf, Account as AccountOf, Fleets as FleetsOf, System as SystemOf, Build, Research, Yard, Set, Send, Join, Recall}
+use Rattle.tick_model.specs.Asking.{Asks, asked_of, brought}
 use Rattle.tick_model.specs.declared.acting.Acted.{Acted}
 use Rattle.tick_model.specs.Strict.{Comes}
+use Rattle.tick_model.specs.declared.acting.TheConstants.{NOT_YOURS}
 use Rattle.tick_model.specs.declared.rules.Rules.{Rules}
 use Rattle.reply_text.specs.declared.reply.Reply.{Reply}
 use Rattle.tick_model.specs.Universe.{Own, of_nothing, of_account, of_planet, Universe, View, view}
-use Rattle.tick_model.specs.Step.{is_there, asked, shown, no_change, write, Outcome, refused, told, planet_outcome, outcome, Stepped, step}
+use Rattle.tick_model.specs.Step.{IsBuilt, is_there, asked, shown, no_change, write, Outcome, refused, granted, planet_outcome, outcome, Stepped, step}
 use Rattle.tick_model.specs.Reply.{planet_text}
 
 filter_all : {A : Type 0} (xs : List A) → filter (λ x. true) xs ≡ xs
@@ -61,7 +62,7 @@ there_if_there of_nothing same other is = refl
 there_if_there of_account same other is = rw is refl
 there_if_there (of_planet planet) same other is = rw is refl
 
--- what comes of a request that is shown less of a planet, where the caller is no player
+-- what comes of a request that is shown less of a planet, if the caller is no player
 outcome_shown : (rules : Rules) (seen : CellId → View) (player : Player) (account planet : Own) (same : Bool) → same ≡ true
     → planet_outcome rules seen player account (cond (is_there account && is_there planet && same) planet of_nothing) ≡ planet_outcome rules seen player account planet
 outcome_shown rules seen player of_nothing planet same is = refl
@@ -94,7 +95,7 @@ same_answer rules s t player (of_planet other) planet = record { code = refl; bo
 same_answer rules s t player of_account of_nothing = record { code = refl; body = refl }
 same_answer rules s t player of_account of_account = record { code = refl; body = refl }
 same_answer rules s t player of_account (of_planet planet) =
-    elim (same_player planet.owner player) as (λ b. SameAnswer (cond b (told (planet_text rules planet) s) (refused 3 s)) (cond b (told (planet_text rules planet) t) (refused 3 t)))
+    elim (same_player planet.owner player) as (λ b. SameAnswer (cond b (granted (planet_text rules planet) s) (refused NOT_YOURS s)) (cond b (granted (planet_text rules planet) t) (refused NOT_YOURS t)))
     [ true ↦ record { code = refl; body = refl } | false ↦ record { code = refl; body = refl } ]
 
 changes_nothing : (rules : Rules) (seen : CellId → View) (player : Player) (account planet : Own) → (planet_outcome rules seen player account planet).change ≡ no_change seen
@@ -103,7 +104,7 @@ changes_nothing rules seen player (of_planet other) planet = refl
 changes_nothing rules seen player of_account of_nothing = refl
 changes_nothing rules seen player of_account of_account = refl
 changes_nothing rules seen player of_account (of_planet planet) =
-    elim (same_player planet.owner player) as (λ b. (cond b (told (planet_text rules planet) seen) (refused 3 seen)).change ≡ no_change seen) [ true ↦ refl | false ↦ refl ]
+    elim (same_player planet.owner player) as (λ b. (cond b (granted (planet_text rules planet) seen) (refused NOT_YOURS seen)).change ≡ no_change seen) [ true ↦ refl | false ↦ refl ]
 
 -- what the account and the planet make of a request for the planet, whatever else is seen
 abbrev pub planet_answer : Universe → Player → Coord → Outcome
@@ -146,6 +147,23 @@ comes_as rules seen player caller planet caller_there planet_there acted comes s
   comes.body seen ∙ (λ i. (planet_outcome rules seen player (same_caller i) (same_planet i)).body),
 )
 
+-- a request for a planet leaves the universe at its moment, with the next number
+pub asked_universe : (old : Universe) (player : Player) (req : Request) (reading : ℕ) (at : Coord) → req ≡ PlanetOf at
+    → (asked_of old player req reading).universe ≡ record (brought (max reading old.moment) old) { number = old.number + 1 }
+asked_universe old player req reading at is =
+    ap (λ (r : Request). (asked_of old player r reading).universe) is ∙ ap (λ (s : Stepped). s.universe) (step_is (brought (max reading old.moment) old) (old.number + 1) (max reading old.moment) reading player at)
+
+-- its reply is what the planet comes to there
+pub asked_reply : (old ticked : Universe) (player : Player) (req : Request) (reading : ℕ) (at : Coord) (answer : Reply)
+    → req ≡ PlanetOf at
+    → ticked ≡ brought (max reading old.moment) old
+    → answer ≡ record { number = old.number + 1; moment = max reading old.moment; code = (planet_answer ticked player at).code; body = (planet_answer ticked player at).body }
+    → answer ≡ (asked_of old player req reading).reply
+asked_reply old ticked player req reading at answer is brings answers =
+    let moment = max reading old.moment in
+    let stepped = ap (λ (r : Request). (asked_of old player r reading).reply) is ∙ ap (λ (s : Stepped). s.reply) (step_is (brought moment old) (old.number + 1) moment reading player at) in
+    answers ∙ ap (λ (u : Universe). (stepped_at u (old.number + 1) moment player at).reply) brings ∙ sym stepped
+
 -- a universe that was brought to a request's moment and answers there has been asked
 pub asks_planet : (old ticked new : Universe) (player : Player) (req : Request) (reading : ℕ) (at : Coord) (answer : Reply)
     → req ≡ PlanetOf at
@@ -154,10 +172,22 @@ pub asks_planet : (old ticked new : Universe) (player : Player) (req : Request) 
     → answer ≡ record { number = old.number + 1; moment = max reading old.moment; code = (planet_answer ticked player at).code; body = (planet_answer ticked player at).body }
     → Asks old new player req reading answer
 asks_planet old ticked new player req reading at answer is brings after answers =
-    let moment = max reading old.moment in
-    let stepped = ap (λ (r : Request). step (brought moment old) (record { number = old.number + 1; moment = moment; reading = reading; player = player; req = r })) is ∙ step_is (brought moment old) (old.number + 1) moment reading player at in
-    let here = ap (λ (u : Universe). stepped_at u (old.number + 1) moment player at) brings in
     record {
-      after = after ∙ ap (λ (s : Stepped). s.universe) (here ∙ sym stepped);
-      answer = answers ∙ ap (λ (s : Stepped). s.reply) (here ∙ sym stepped);
+      after = after ∙ ap (λ (u : Universe). record u { number = old.number + 1 }) brings ∙ sym (asked_universe old player req reading at is);
+      answer = asked_reply old ticked player req reading at answer is brings answers;
     }
+
+-- a request that is answered today leaves the universe at its moment, with the next number
+pub built_universe : (old : Universe) (player : Player) (req : Request) (reading : ℕ) → IsBuilt req
+    → (asked_of old player req reading).universe ≡ record (brought (max reading old.moment) old) { number = old.number + 1 }
+built_universe old player (PlanetOf at) reading built = asked_universe old player (PlanetOf at) reading at refl
+built_universe old player AccountOf reading built = absurd built
+built_universe old player FleetsOf reading built = absurd built
+built_universe old player (SystemOf at) reading built = absurd built
+built_universe old player (Build at building) reading built = absurd built
+built_universe old player (Research at technology) reading built = absurd built
+built_universe old player (Yard at unit count) reading built = absurd built
+built_universe old player (Set at work tenths) reading built = absurd built
+built_universe old player (Send from to mission setting ships cargo) reading built = absurd built
+built_universe old player (Join fleet from to setting ships cargo) reading built = absurd built
+built_universe old player (Recall fleet) reading built = absurd built

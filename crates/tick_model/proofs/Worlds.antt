@@ -13,22 +13,7 @@ use Rattle.tick_model.specs.Asking.{Asks, brought, entry_of}
 use Rattle.base_ids.specs.declared.player.Player.{Player}
 use Rattle.request_text.specs.declared.request.Request.{Request}
 use Rattle.tick_model.specs.World.{acted, at_moment, ticked, world, reply}
-
--- the number and the moment of the last entry
-abbrev pub last_number : ℕ → List Entry → ℕ
-last_number number [] = number
-last_number number (entry ∷ later) = last_number entry.number later
-
-abbrev pub last_moment : ℕ → List Entry → ℕ
-last_moment moment [] = moment
-last_moment moment (entry ∷ later) = last_moment entry.moment later
-
--- a universe is what this history has made of its base
-pub record Stands (base : Universe) (history : List Entry) (universe : Universe) : Type 0 where
-  pub legal : IsLegal base history
-  pub moment : universe.moment ≡ last_moment base.moment history
-  pub number : universe.number ≡ last_number base.number history
-  pub made : universe ≡ world base history universe.moment
+use Rattle.tick_model.specs.Standing.{Stands, last_moment, last_number}
 
 last_moment-more : (moment : ℕ) (es : List Entry) (e : Entry) → last_moment moment (es ++ e ∷ []) ≡ e.moment
 last_moment-more moment [] e = refl

@@ -3,6 +3,7 @@ pub mod Second
 pub mod Reply
 pub mod Step
 pub mod World
+pub mod Standing
 pub mod History
 pub mod Talk
 pub mod Asking

@@ -9,6 +9,7 @@ use Rattle.request_text.specs.declared.request.Request.{Request}
 use Rattle.request_text.specs.declared.request.Request.TheVariants.{Planet as PlanetOf}
 use Rattle.request_text.specs.declared.entry.Entry.{Entry}
 use Rattle.reply_text.specs.declared.reply.Reply.{Reply}
+use Rattle.tick_model.specs.declared.acting.TheConstants.{NO_PLAYER, NO_PLANET, NOT_YOURS}
 use Rattle.tick_model.specs.declared.rules.Rules.{Rules}
 use Rattle.tick_model.specs.Universe.{Own, of_nothing, of_account, of_planet, Item, Fleet, Universe, View, view}
 use Rattle.tick_model.specs.Reply.{planet_text}
@@ -61,7 +62,7 @@ write cells change universe =
       fleets = filter_map change.fleet universe.fleets ++ change.sent;
     }
 
--- what comes of a request: its code, which is 0 where it is granted, the lines of its reply, and its change
+-- what comes of a request: its code, which is 0 if it is granted, the lines of its reply, and its change
 pub record Outcome : Type 0 where
   pub code : ℕ
   pub body : List ℕ
@@ -70,24 +71,24 @@ pub record Outcome : Type 0 where
 abbrev pub refused : ℕ → (CellId → View) → Outcome
 refused code seen = record { code = code; body = []; change = no_change seen }
 
-abbrev pub told : List ℕ → (CellId → View) → Outcome
-told body seen = record { code = 0; body = body; change = no_change seen }
+abbrev pub granted : List ℕ → (CellId → View) → Outcome
+granted body seen = record { code = 0; body = body; change = no_change seen }
 
--- `planet C` by what is there of the caller's account and at C. It is refused with 1 where the caller is no
--- player, 2 where no planet stands at C, and 3 where that planet is somebody else's.
+-- `planet C` by what is there of the caller's account and at C. It is refused with 1 if the caller is no
+-- player, 2 if no planet stands at C, and 3 if that planet is somebody else's.
 abbrev pub planet_outcome : Rules → (CellId → View) → Player → Own → Own → Outcome
 planet_outcome rules seen player of_account (of_planet planet) =
-    if same_player planet.owner player then told (planet_text rules planet) seen else refused 3 seen
-planet_outcome rules seen player of_account of_nothing = refused 2 seen
-planet_outcome rules seen player of_account of_account = refused 2 seen
-planet_outcome rules seen player of_nothing there = refused 1 seen
-planet_outcome rules seen player (of_planet planet) there = refused 1 seen
+    if same_player planet.owner player then granted (planet_text rules planet) seen else refused NOT_YOURS seen
+planet_outcome rules seen player of_account of_nothing = refused NO_PLANET seen
+planet_outcome rules seen player of_account of_account = refused NO_PLANET seen
+planet_outcome rules seen player of_nothing there = refused NO_PLAYER seen
+planet_outcome rules seen player (of_planet planet) there = refused NO_PLAYER seen
 
 -- What comes of a request, by what is seen of the cells that it asks for. No line of a form that isn't built yet makes
 -- an entry; such a form is granted with no lines here, since the definition is of every request.
 abbrev pub outcome : Rules → (CellId → View) → Player → Request → Outcome
 outcome rules seen player (PlanetOf at) = planet_outcome rules seen player (seen (Account player)).own (seen (Planet at)).own
-outcome rules seen player _ = told [] seen
+outcome rules seen player _ = granted [] seen
 
 -- the universe after a request, and the reply
 pub record Stepped : Type 0 where

@@ -18,7 +18,7 @@ pub record PlanetFields : Type 0 where
   pub fields : ℕ
   pub stock : Resources
 
--- what a cell has of its own: nothing where no player has the number and no planet stands at the place
+-- what a cell has of its own: nothing if no player has the number and no planet stands at the place
 pub data Own : Type 0 where
   of_nothing : Own
   of_account : Own

@@ -57,7 +57,7 @@ pub fn place_of(req: &Request) -> Coord
     }
 }
 
-/// What `planet C` comes to, where the caller is a player or not and this planet stands at C or none does.
+/// What `planet C` comes to, whether the caller is a player or not, and whether this planet stands at C or none does.
 pub fn show_planet(
     alloc: Global,
     rules: Rules,

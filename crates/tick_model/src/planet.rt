@@ -3,7 +3,7 @@ ghost use Rattle.rates.specs.Stock.{IsWithinCap};
 use crate::rules::Rules;
 use crate::stock::stock_second;
 use base_ids::{Coord, Player};
-use rates::{GRAINS, Resources, STORAGE, basic_income};
+use rates::{GRAINS, Resources, basic_income, storage};
 
 /// A planet: where it stands, who owns it, its maximum temperature in degrees, its fields, and its stocks in
 /// grains of 1/3600 unit, each at most the cap of 4,000,000,000,000 units.
@@ -27,16 +27,20 @@ impl Planet {
         ensures { fields_of result ≡ planet_second rules (fields_of self) }
     {
         let income = basic_income(rules.speed);
-        let limit = GRAINS * STORAGE;
+        let stored = storage();
         Planet {
             at: self.at,
             owner: self.owner,
             temperature: self.temperature,
             fields: self.fields,
             stock: Resources {
-                metal: stock_second(self.stock.metal, limit, income.metal),
-                crystal: stock_second(self.stock.crystal, limit, income.crystal),
-                deuterium: stock_second(self.stock.deuterium, limit, income.deuterium),
+                metal: stock_second(self.stock.metal, GRAINS * stored.metal, income.metal),
+                crystal: stock_second(self.stock.crystal, GRAINS * stored.crystal, income.crystal),
+                deuterium: stock_second(
+                    self.stock.deuterium,
+                    GRAINS * stored.deuterium,
+                    income.deuterium,
+                ),
             },
         }
     }

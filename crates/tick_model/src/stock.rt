@@ -1,7 +1,8 @@
 ghost use Rattle.std.specs.Prelude.{◌≡◌, ◌*◌, ◌^◌, ◌≤◌};
 ghost use Rattle.rates.specs.Stock.{gain_once};
 
-use rates::{CAP, GRAINS};
+use catalog::CAP;
+use rates::GRAINS;
 
 /// A stock one second later, in grains: below its limit it gains `hourly` and is cut at the limit, else it stays.
 pub fn stock_second(grains: u64, limit: u64, hourly: u64) -> u64

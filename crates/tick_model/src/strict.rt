@@ -1,6 +1,7 @@
-ghost use Rattle.std.specs.Prelude.{◌≡◌, ◌<◌, ◌^◌, find};
+ghost use Rattle.std.specs.Prelude.{◌≡◌, ◌≤◌, find};
 ghost use Rattle.std.specs.List.{list_any};
 ghost use Rattle.base_ids.specs.Cells.{same_coord, same_player};
+ghost use Rattle.ports.specs.declared.clock.TheConstants.{LATEST};
 
 use crate::planet::Planet;
 use crate::rules::Rules;
@@ -9,7 +10,7 @@ use std::alloc::AllocError;
 
 /// A universe in memory, all of whose planets stand at its moment.
 ///
-/// The moment is a second below 2^40, and the number is that of the last request.
+/// The moment is a second of at most 2^40 − 1, and the number is that of the last request.
 #[derive(Debug, Drop)]
 pub struct StrictUniverse {
     pub rules: Rules,
@@ -17,7 +18,7 @@ pub struct StrictUniverse {
     pub number: u64,
     pub players: Vec<Player>,
     pub planets: Vec<Planet>,
-    pub ghost in_time: { moment < 2 ^ 40 },
+    pub ghost in_time: { moment ≤ LATEST },
 }
 
 impl StrictUniverse {

@@ -1,6 +1,6 @@
 use crate::{NO_PLANET, NO_PLAYER, NOT_YOURS, Planet, Rules, StrictUniverse, ask, is_built};
-use base_ids::{Coord, Player};
-use base_text::Bytes;
+use base_ids::{Coord, LAST_NUMBER, Player};
+use ports::LATEST;
 use rates::{GRAINS, Resources};
 use reply_text::Reply;
 use request_text::Call;
@@ -49,7 +49,7 @@ fn asked(
 ) -> Result<Reply, Fail> {
     let call = Call::read(line, true).ok_or("no call")?;
     let reading = call.reading.ok_or("no reading")?;
-    assert!(rt; universe.number < 1 << 40 && reading < 1 << 40);
+    assert!(rt; universe.number < LAST_NUMBER && reading <= LATEST);
     assert!(rt; is_built(&call.req));
     Ok(ask(alloc, universe, call.player, &call.req, reading)?)
 }

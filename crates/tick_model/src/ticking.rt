@@ -1,4 +1,6 @@
-ghost use Rattle.std.specs.Prelude.{◌≡◌, ◌+◌, ◌≤◌, ◌<◌, ◌^◌, map, IfOk, OnErr};
+ghost use Rattle.std.specs.Prelude.{◌≡◌, ◌+◌, ◌≤◌, ◌<◌, map, IfOk, OnErr};
+ghost use Rattle.base_ids.specs.declared.numbers.TheConstants.{LAST_NUMBER};
+ghost use Rattle.ports.specs.declared.clock.TheConstants.{LATEST};
 ghost use Rattle.tick_model.specs.Asking.{Asks, brought};
 ghost use Rattle.tick_model.specs.Second.{planet_second, universe_second};
 ghost use Rattle.tick_model.specs.Step.{IsBuilt};
@@ -24,7 +26,7 @@ fn planets_second(planets: &mut [Planet], rules: Rules)
 
 /// One second of the universe.
 fn second(universe: &mut StrictUniverse)
-    requires { universe.old.moment + 1 < 2 ^ 40 }
+    requires { universe.old.moment < LATEST }
     ensures { universe_of universe.new ≡ universe_second (universe_of universe.old) }
 {
     planets_second(&mut universe.planets, universe.rules);
@@ -34,7 +36,7 @@ fn second(universe: &mut StrictUniverse)
 /// Lets the universe tick, second by second, to a moment that has not passed.
 fn tick_to(universe: &mut StrictUniverse, moment: u64)
     requires later { universe.old.moment ≤ moment }
-    requires in_time { moment < 2 ^ 40 }
+    requires in_time { moment ≤ LATEST }
     ensures { universe_of universe.new ≡ brought moment (universe_of universe.old) }
 {
     'seconds: while universe.moment < moment {
@@ -42,10 +44,10 @@ fn tick_to(universe: &mut StrictUniverse, moment: u64)
     }
 }
 
-/// Asks the universe, which ticks second by second to the moment of the request. The reading is a second below 2^40.
+/// Asks the universe, which ticks second by second to the moment of the request. The reading is at most 2^40 − 1.
 ///
 /// It is the plain form of asking: it takes a step for every second and every planet, and a copy of the
-/// universe. Where memory runs out the universe stays as it was.
+/// universe. If memory runs out the universe stays as it was.
 pub fn ask(
     alloc: Global,
     universe: &mut StrictUniverse,
@@ -54,8 +56,8 @@ pub fn ask(
     reading: u64,
 ) -> Result<Reply, AllocError>
     requires built { IsBuilt req.now }
-    requires number { universe.old.number < 2 ^ 40 }
-    requires reading { reading < 2 ^ 40 }
+    requires number { universe.old.number < LAST_NUMBER }
+    requires reading { reading ≤ LATEST }
     ensures ok { IfOk result (Asks (universe_of universe.old) (universe_of universe.new) player req.now reading) }
     ensures err { OnErr result (universe_of universe.new ≡ universe_of universe.old) }
 {

@@ -40,11 +40,11 @@ pub fn planet_lines(alloc: Global, rules: Rules, planet: Planet) -> Result<Bytes
     ensures { IfOk result (λ body. body ≡ planet_text rules (fields_of planet)) }
 {
     let mut body = Bytes::new(alloc);
-    push_planet(&mut body, head(planet))?;
-    push_stock(&mut body, units(whole_units(planet.stock)))?;
-    push_hourly(&mut body, units(basic_income(rules.speed)))?;
-    push_limit(&mut body, units(storage()))?;
-    push_energy(&mut body, 0, 0)?;
-    push_debris(&mut body, 0, 0)?;
+    push_planet(alloc, &mut body, head(planet))?;
+    push_stock(alloc, &mut body, units(whole_units(planet.stock)))?;
+    push_hourly(alloc, &mut body, units(basic_income(rules.speed)))?;
+    push_limit(alloc, &mut body, units(storage()))?;
+    push_energy(alloc, &mut body, 0, 0)?;
+    push_debris(alloc, &mut body, 0, 0)?;
     Ok(body)
 }

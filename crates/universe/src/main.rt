@@ -13,7 +13,7 @@ fn command_words(args: Args, rt: &impl AllocGlobal) -> Result<Vec<String>, Alloc
     args.skip(2).collect(rt.alloc())
 }
 
-/// The status where the words cannot be had: want of memory, or words that aren't text.
+/// The status if the words cannot be had: out of memory, or words that aren't text.
 fn refusal(error: &io::Error) -> u8 {
     match error.kind() {
         io::ErrorKind::OutOfMemory => NO_MEMORY,

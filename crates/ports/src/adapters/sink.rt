@@ -10,7 +10,7 @@ use crate::failed::Failed;
 use crate::sink::Sink;
 use std::io::Write;
 
-/// A sink over a writer of std. It has written what the writer holds, where that is known; of
+/// A sink over a writer of std. It has written what the writer holds, if that is known; of
 /// standard output, a file or a socket nothing is known. It holds no byte back itself, so give it
 /// a writer that holds none back either, as the runtime's `stdout()`.
 #[derive(Drop)]

@@ -10,7 +10,7 @@ use crate::failed::Failed;
 use crate::source::Source;
 use std::io::Read;
 
-/// A source over a reader of std. It has as many bytes left as the reader has, where that is
+/// A source over a reader of std. It has as many bytes left as the reader has, if that is
 /// known; of standard input, a file or a socket nothing is known.
 #[derive(Drop)]
 pub struct ReadSource<R> {

@@ -1,12 +1,13 @@
 // A clock that tells readings in memory.
-ghost use Rattle.std.specs.Prelude.{◌≡◌, ◌^◌, ◌<◌, [], IfSome};
+ghost use Rattle.std.specs.Prelude.{◌≡◌, ◌≤◌, [], IfSome};
 ghost use Rattle.ports.specs.Counts.{next_count};
 ghost use Rattle.ports.specs.Readings.{TellsReading, reading_at, readings_told};
+ghost use Rattle.ports.specs.declared.clock.TheConstants.{LATEST};
 
 use crate::clock::{Clock, LATEST};
 
 /// A clock that tells readings in memory, in order, for tests. It repeats the last one, tells 0
-/// where there is none, and tells one above `LATEST` as `LATEST`.
+/// if there is none, and tells one above `LATEST` as `LATEST`.
 #[derive(Clone, Copy)]
 pub struct MemoryClock<'a> {
     /// The readings to tell, from the first.
@@ -39,7 +40,7 @@ impl Clock for MemoryClock<'_> {
 
     #[tactic(auto, using(crate::proofs::Tellings::tellings))]
     fn now(&mut self) -> u64
-        ensures range { result < 2 ^ 40 }
+        ensures range { result ≤ LATEST }
         ensures latest { self.new.latest ≡ result }
         ensures gains { TellsReading (readings_told self.old.readings.now self.old.count)
             (readings_told self.new.readings.now self.new.count) result }
@@ -64,11 +65,11 @@ impl Clock for MemoryClock<'_> {
     }
 }
 
-// The reading at a place of the list, the last one past its end, and 0 where it is empty.
+// The reading at a place of the list, the last one past its end, and 0 if it is empty.
 #[tactic(auto, unfolding(crate::specs::Readings::reading_at))]
 fn take_reading(readings: &[u64], place: u64) -> u64
     ensures value { result ≡ reading_at readings.now place }
-    ensures range { result < 2 ^ 40 }
+    ensures range { result ≤ LATEST }
 {
     let end = readings.len().saturating_sub(1);
     let place = (place as usize).min(end);

@@ -71,7 +71,7 @@ impl Sink for MemorySink<'_> {
         ensures bytes { WriteAppends (Some self.old.bytes.items) (Some self.new.bytes.items) result from.now }
         ensures cause { HasCause self.old.faults self.new.faults result }
 
-        // It fails at the listed calls, and else only where the bytes need more memory.
+        // It fails at the listed calls, and else only if the bytes need more memory.
         ensures fails { Contains self.old.failing.now (next_count self.old.calls) → IsErr result }
         ensures refused { OnErr result (Contains self.old.failing.now (next_count self.old.calls)
             ⊎ (vec_capacity self.old.bytes < vec_len self.old.bytes + piece_of (length from.now) self.old.most)) }

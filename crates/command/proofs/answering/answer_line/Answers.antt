@@ -1,52 +1,42 @@
-use Rattle.std.proofs.Common.{◌++◌, ◌∷◌, [], ◌∙◌, ap, arith, inl, inr, refl}
-use Rattle.std.specs.Prelude.{codes}
-use Rattle.reply_text.specs.Heads.{text}
-use Rattle.reply_text.specs.Words.{line}
+use Rattle.std.proofs.Common.{◌≡◌, ◌∷◌, [], ◌*◌, ◌+◌, ◌≤◌, length, ◌∙◌, ap, arith, sym, subst}
+use Rattle.ports.proofs.Tellings.{tells-none}
+use Rattle.tick_model.specs.Strict.{universe_of}
+use Rattle.tick_model.specs.Talk.{memory_line}
 use Rattle.tick_model.specs.Universe.{Universe}
 use Rattle.tick_model.proofs.Worlds.{asked-number}
-use Rattle.command.proofs.Progress.{came-few, on_err}
+use Rattle.command.specs.Answers.{Turn, asks_nothing, asked, lacks_memory}
+use Rattle.command.proofs.Progress.{two_bytes}
 use Rattle.command.proofs.answering.answer_line.Goals as goal
 
 pub returns-in_default-clause-turns :
     goal.returns-in_default-clause-turns
-unfolding line
-returns-in_default-clause-turns g c =
-    inr (inl (c.requires.short, c.in_default.ensures, record { unasked = refl; untold = refl; bytes_are = c.in_ok-push_line.ensures.ok ∙ ap (λ before. before ++ codes "bad 1" ++ 10 ∷ []) c.clear.ensures }))
+returns-in_default-clause-turns g c = ([], tells-none (g.C.Clock.told c.args.clock.now), asks_nothing c.requires.short c.in_default.ensures)
 
-pub returns-in_err-reply-clause-told :
-    goal.returns-in_err-reply-clause-told
-returns-in_err-reply-clause-told g c = on_err c.from_residual-in_err-reply.result (came-few c.in-Some.call.reading c.reading_of-reading.result (g.C.Clock.told c.args.clock.now) (g.C.Clock.told c.reading_of-reading.new.clock) c.reading_of-reading.ensures.came)
+pub returns-in-Ok-clause-turns :
+    goal.returns-in-Ok-clause-turns
+returns-in-Ok-clause-turns g c =
+    let came = c.reading_of-reading.ensures.came in
+    let answer = c.in-Ok.ensures.ok in (
+      came.0,
+      came.2,
+      subst (Turn (universe_of c.args.universe.now) c.args.line.now (universe_of c.answer.new.universe) came.0) (sym answer.2)
+          (asked c.in-Some.call c.reading_of-reading.result came.0 (universe_of c.answer.new.universe) answer.0 c.requires.short c.in-Some.ensures came.1 answer.1),
+    )
 
-pub returns-in_err-reply-clause-number :
-    goal.returns-in_err-reply-clause-number
-returns-in_err-reply-clause-number g c =
-    let same = ap (λ (u : Universe). u.number) c.in_err-reply.ensures.err in
-    omega (arith, same)
+pub returns-in-Ok-clause-number :
+    goal.returns-in-Ok-clause-number
+returns-in-Ok-clause-number g c =
+    let answer = c.in-Ok.ensures.ok in
+    let more = asked-number _ _ c.in-Some.call.player c.in-Some.call.req c.reading_of-reading.result answer.0 answer.1 in
+    let bytes = two_bytes c.args.line.now c.in-Some.call c.in-Some.ensures in
+    omega (arith, more, bytes)
 
-pub returns-in_err-write_reply-clause-told :
-    goal.returns-in_err-write_reply-clause-told
-returns-in_err-write_reply-clause-told g c = on_err c.from_residual-in_err-write_reply.result (came-few c.in-Some.call.reading c.reading_of-reading.result (g.C.Clock.told c.args.clock.now) (g.C.Clock.told c.reading_of-reading.new.clock) c.reading_of-reading.ensures.came)
-
-pub returns-in_err-write_reply-clause-number :
-    goal.returns-in_err-write_reply-clause-number
-returns-in_err-write_reply-clause-number g c =
-    let more = asked-number _ _ c.in-Some.call.player c.in-Some.call.req c.reading_of-reading.result c.in_ok-reply.reply c.in_ok-reply.ensures.ok in
-    omega (arith, more)
-
-pub returns-clause-number : goal.returns-clause-number
-returns-clause-number g c =
-    let more = asked-number _ _ c.in-Some.call.player c.in-Some.call.req c.reading_of-reading.result c.in_ok-reply.reply c.in_ok-reply.ensures.ok in
-    omega (arith, more)
-
-pub returns-clause-turns : goal.returns-clause-turns
-returns-clause-turns g c =
-    inr (inr (record {
-      call = c.in-Some.call;
-      reading = c.reading_of-reading.result;
-      answer = c.in_ok-reply.reply;
-      short = c.requires.short;
-      asks = c.in-Some.ensures;
-      came = c.reading_of-reading.ensures.came;
-      asked = c.in_ok-reply.ensures.ok;
-      text_is = c.in_ok-write_reply.ensures.ok ∙ ap (λ before. before ++ text c.in_ok-reply.reply) c.clear.ensures;
-    }))
+pub returns-in-Err-clause-turns :
+    goal.returns-in-Err-clause-turns
+returns-in-Err-clause-turns g c =
+    let came = c.reading_of-reading.ensures.came in (
+      came.0,
+      came.2,
+      subst (λ (u : Universe). Turn (universe_of c.args.universe.now) c.args.line.now u came.0 memory_line) (sym (ap universe_of c.in-Err.ensures.err))
+          (lacks_memory c.in-Some.call c.reading_of-reading.result came.0 c.requires.short c.in-Some.ensures came.1),
+    )

@@ -1,6 +1,7 @@
 -- The lines that were taken so far were answered.
-use Rattle.std.proofs.Common.{◌≡◌, ℕ, List, ◌+◌, ◌≤◌, ◌^◌, length}
+use Rattle.std.proofs.Common.{◌≡◌, ℕ, ◌+◌, ◌*◌, ◌≤◌, List, length}
 use Rattle.request_text.specs.LineReading.{Known, Sees, ahead, taken}
+use Rattle.request_text.specs.declared.line_reader.TheConstants.{MOST_TAKEN}
 use Rattle.tick_model.specs.Strict.{universe_of}
 use Rattle.command.proofs.Progress.{Come}
 use Rattle.command.proofs.answering.answer_lines.Given as goal
@@ -11,9 +12,9 @@ invariant-script g l =
     let told = g.C.Clock.told in
     let written = g.K.Sink.written in
     record {
-      room : l.universe.number + ahead l.lines ≤ 2 ^ 40;
-      source_faults : g.S.Source.faults l.fn.source ≤ g.S.Source.faults l.source;
-      sink_faults : g.K.Sink.faults l.fn.sink ≤ g.K.Sink.faults l.sink;
+      room : 2 * l.universe.number + ahead l.lines ≤ MOST_TAKEN;
+      source_faults : g.S.Source.faults l.source ≡ g.S.Source.faults l.fn.source;
+      sink_faults : g.K.Sink.faults l.sink ≡ g.K.Sink.faults l.fn.sink;
       counts : Known (left l.fn.source) (left l.source) (λ before after. taken l.lines + length after ≡ taken l.fn.lines + length before);
       come : Known (left l.fn.source) (left l.source) (λ before after. (text : List ℕ) → Sees l.fn.lines before text
           → Come l.lines after (universe_of l.fn.universe) (universe_of l.universe) text (told l.fn.clock) (told l.clock) (written l.fn.sink) (written l.sink));

@@ -4,19 +4,20 @@ use Rattle.std.proofs.Math.ListN.{length-set}
 use Rattle.base_text.specs.Parts.{parts}
 use Rattle.catalog.specs.declared.kind.Kind.TheVariants.{MetalMine}
 use Rattle.request_text.proofs.ShipParts.{any_ship, are_within, counts-none, once_more, parts_text, read_all, read_more, read_over, text_parts, within_more}
+use Rattle.request_text.proofs.Tails.{if_none}
 use Rattle.request_text.proofs.ship_counts.ships.Goals as goal
 
-pub returns-in_default : goal.returns-in_default
-returns-in_default c = λ ships spells.
+pub returns-in_err-count : goal.returns-in_err-count
+returns-in_err-count c = if_none c.from_residual.result _ _ c.from_residual.ensures (λ ships spells.
     let here = c.kinds.invariant.once ships.n ships.kinds ships.within (ap (parts 44) spells ∙ text_parts ships) in
-    counts-none c.kinds.i MetalMine ships.n c.kinds.parts c.kinds-test.true ships.kinds ships.within c.in_default.ensures here.1
+    counts-none c.kinds.i MetalMine ships.n c.kinds.parts c.kinds-test.true ships.kinds ships.within c.in_err-count.ensures here.1)
 
 pub kinds-preserved : goal.kinds-preserved
 kinds-preserved c =
     let i = c.kinds.i in
     let n = c.kinds.n in
-    let count = c.in-Some.count in
-    let counted = c.in-Some.ensures in
+    let count = c.in_ok-count.count in
+    let counted = c.in_ok-count.ensures in
     let old = c.kinds.parts in
     let new = c.next_ship_count.new.parts in
     record {

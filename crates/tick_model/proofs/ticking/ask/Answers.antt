@@ -6,7 +6,7 @@ use Rattle.base_ids.specs.declared.cell_id.CellId.TheVariants.{Account, Planet}
 use Rattle.tick_model.specs.Asking.{brought}
 use Rattle.tick_model.specs.Strict.{fields_of, own_account, own_planet, universe_of}
 use Rattle.tick_model.specs.Universe.{view}
-use Rattle.tick_model.proofs.Standing.{found_fields}
+use Rattle.tick_model.proofs.Listing.{found_fields}
 use Rattle.tick_model.proofs.Steps.{asks_planet, comes_as}
 use Rattle.tick_model.proofs.ticking.ask.Goals as goal
 

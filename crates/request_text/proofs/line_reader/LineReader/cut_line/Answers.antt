@@ -1,7 +1,7 @@
 use Rattle.std.proofs.Common.{◌∙◌, ◌≡◌, arith, length, take}
 use Rattle.std.proofs.lemmas.List.{length-take-le}
-use Rattle.request_text.specs.LineReading.{ahead, kept}
-use Rattle.request_text.proofs.LineSeeing.{tells-cut, nears-less, less-ahead}
+use Rattle.request_text.specs.LineReading.{kept}
+use Rattle.request_text.proofs.LineSeeing.{tells-cut, less-ahead}
 use Rattle.request_text.proofs.line_reader.LineReader.cut_line.Goals as goal
 
 pub returns-clause-tells : goal.returns-clause-tells
@@ -18,4 +18,6 @@ returns-clause-nears c =
     let old = c.args.self.now in
     let new = c.answer.new.self in
     let a = c.answer.ensures in
-    nears-less (ahead old) (ahead new) c.answer.result (less-ahead old new c.args.place c.requires.feed.within a.kept a.short a.taken)
+    let line = rw c.kept.ensures at c.line_length-count.ensures in
+    let much : length (take c.args.place (kept old)) ≡ c.args.place = length-take-le c.args.place (kept old) (omega (arith, c.requires.feed.within)) in
+    less-ahead old new c.args.place c.line_length-count.result c.answer.result c.requires.feed.within (omega (arith, line.within, much)) a.answers a.kept a.short a.taken

@@ -1,0 +1,13 @@
+pub mod Runs
+pub mod Bringing
+pub mod Locality
+pub mod Preparing
+pub mod Seconds
+pub mod Following
+pub mod Asking
+pub mod Closures
+pub mod Worlds
+pub mod Histories
+pub mod Holding
+pub mod Theorems
+pub mod ParcelLaws
