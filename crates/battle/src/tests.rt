@@ -45,6 +45,29 @@ struct Case {
     planet_left: &'static [&'static [Units]],
 }
 
+const TWO_FLEETS: [Force; 2] = [
+    (3, LOW_TECHS, &[(LightFighter, 12), (Cruiser, 4)]),
+    (
+        9,
+        HIGH_TECHS,
+        &[(LightFighter, 10), (Cruiser, 3), (Bomber, 1)],
+    ),
+];
+
+const GUARDED_PLANET: [Force; 2] = [
+    (
+        0,
+        LOW_TECHS,
+        &[
+            (Satellite, 6),
+            (Launcher, 20),
+            (LightLaser, 8),
+            (SmallDome, 1),
+        ],
+    ),
+    (5, NO_TECHS, &[(HeavyFighter, 4)]),
+];
+
 /// Computed with Python's integers by the rules of docs/RULES.md, with lists of units that are shot at one by one.
 const CASES: [Case; 18] = [
     // A light fighter against a plasma turret.
@@ -179,27 +202,8 @@ const CASES: [Case; 18] = [
     },
     // Two parts with technologies of their own.
     Case {
-        attackers: &[
-            (3, LOW_TECHS, &[(LightFighter, 12), (Cruiser, 4)]),
-            (
-                9,
-                HIGH_TECHS,
-                &[(LightFighter, 10), (Cruiser, 3), (Bomber, 1)],
-            ),
-        ],
-        planet: &[
-            (
-                0,
-                LOW_TECHS,
-                &[
-                    (Satellite, 6),
-                    (Launcher, 20),
-                    (LightLaser, 8),
-                    (SmallDome, 1),
-                ],
-            ),
-            (5, NO_TECHS, &[(HeavyFighter, 4)]),
-        ],
+        attackers: &TWO_FLEETS,
+        planet: &GUARDED_PLANET,
         seed: 7,
         number: 1,
         verdict: Verdict::Attackers,
@@ -211,27 +215,8 @@ const CASES: [Case; 18] = [
         planet_left: &[&[], &[]],
     },
     Case {
-        attackers: &[
-            (3, LOW_TECHS, &[(LightFighter, 12), (Cruiser, 4)]),
-            (
-                9,
-                HIGH_TECHS,
-                &[(LightFighter, 10), (Cruiser, 3), (Bomber, 1)],
-            ),
-        ],
-        planet: &[
-            (
-                0,
-                LOW_TECHS,
-                &[
-                    (Satellite, 6),
-                    (Launcher, 20),
-                    (LightLaser, 8),
-                    (SmallDome, 1),
-                ],
-            ),
-            (5, NO_TECHS, &[(HeavyFighter, 4)]),
-        ],
+        attackers: &TWO_FLEETS,
+        planet: &GUARDED_PLANET,
         seed: 8,
         number: 1,
         verdict: Verdict::Attackers,
@@ -243,27 +228,8 @@ const CASES: [Case; 18] = [
         planet_left: &[&[], &[]],
     },
     Case {
-        attackers: &[
-            (3, LOW_TECHS, &[(LightFighter, 12), (Cruiser, 4)]),
-            (
-                9,
-                HIGH_TECHS,
-                &[(LightFighter, 10), (Cruiser, 3), (Bomber, 1)],
-            ),
-        ],
-        planet: &[
-            (
-                0,
-                LOW_TECHS,
-                &[
-                    (Satellite, 6),
-                    (Launcher, 20),
-                    (LightLaser, 8),
-                    (SmallDome, 1),
-                ],
-            ),
-            (5, NO_TECHS, &[(HeavyFighter, 4)]),
-        ],
+        attackers: &TWO_FLEETS,
+        planet: &GUARDED_PLANET,
         seed: 7,
         number: 2,
         verdict: Verdict::Attackers,

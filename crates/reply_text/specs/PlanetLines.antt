@@ -1,10 +1,8 @@
 -- The lines that show a planet, in their order. Rule: docs/PROTOCOL.md, "The lines of a planet".
-use Rattle.std.specs.Prelude.{ℕ, List, [], ◌∷◌, codes, filter}
+use Rattle.std.specs.Prelude.{ℕ, List, [], ◌∷◌, codes}
 use Rattle.std.specs.Fmt.{decimal, signed_decimal}
 use Rattle.base_ids.specs.Text.{coord_text, player_text}
-use Rattle.catalog.specs.Classes.{is_building, is_unit}
-use Rattle.catalog.specs.declared.classes.TheConstants.{WORKS}
-use Rattle.catalog.specs.declared.kind.TheConstants.{KINDS}
+use Rattle.catalog.specs.declared.classes.TheConstants.{BUILDINGS, UNIT_KINDS, WORKS}
 use Rattle.reply_text.specs.Units.{units_text}
 use Rattle.reply_text.specs.Words.{kind_lines, line}
 use Rattle.reply_text.specs.declared.planet_lines.PlanetHead.{PlanetHead}
@@ -39,14 +37,14 @@ energy_line given need = line (codes "energy" ∷ decimal given ∷ decimal need
 abbrev pub debris_line : ℕ → ℕ → List ℕ
 debris_line metal crystal = line (codes "debris" ∷ decimal metal ∷ decimal crystal ∷ [])
 
--- `level BUILDING LEVEL` for each building above 0, by the numbers of the kinds
+-- `level BUILDING LEVEL` for each building above 0, in the order of BUILDINGS
 abbrev pub level_lines : List ℕ → List ℕ
-level_lines levels = kind_lines (codes "level") 0 (filter is_building KINDS) levels
+level_lines levels = kind_lines (codes "level") 0 BUILDINGS levels
 
--- `set WORK TENTHS` for each setting other than 10, in the order of the works
+-- `set WORK TENTHS` for each setting other than 10, in the order of WORKS
 abbrev pub set_lines : List ℕ → List ℕ
 set_lines settings = kind_lines (codes "set") 10 WORKS settings
 
--- `units UNIT COUNT` for each ship and defence above 0, by the numbers of the kinds
+-- `units UNIT COUNT` for each ship and defence above 0, in the order of UNIT_KINDS
 abbrev pub unit_lines : List ℕ → List ℕ
-unit_lines counts = kind_lines (codes "units") 0 (filter is_unit KINDS) counts
+unit_lines counts = kind_lines (codes "units") 0 UNIT_KINDS counts

@@ -5,7 +5,7 @@ use crate::kind_lines::{Numbers, push_kinds};
 use crate::lines::push_line;
 use base_ids::{Coord, Player};
 use base_text::Bytes;
-use catalog::KINDS;
+use catalog::TECHNOLOGIES;
 use std::alloc::{AllocError, Global};
 
 /// What the first line of an account shows: the player, how many units the account has, how many fleets, and how many
@@ -39,8 +39,8 @@ pub fn push_account(alloc: Global, body: &mut Bytes, account: AccountHead) -> Re
     )
 }
 
-/// Appends `tech TECH LEVEL` for each technology whose level is above 0. The levels stand by the numbers of the kinds, from
-/// energy to graviton.
+/// Appends `tech TECH LEVEL` for each technology whose level is above 0. The levels stand in the order of `TECHNOLOGIES`,
+/// and the lines come in this order.
 ///
 /// It fails only if memory runs out, and then appends nothing.
 pub fn push_technologies(
@@ -56,7 +56,7 @@ pub fn push_technologies(
         body,
         "tech",
         0,
-        &KINDS[11..25],
+        &TECHNOLOGIES,
         Numbers::Levels(levels),
     )
 }

@@ -18,6 +18,6 @@ pub(crate) fn push_line<D: Display + Drop>(
     ensures err { OnErr result (body.new ≡ body.old) }
 {
     let mut line = String::with_capacity(alloc, LINE)?;
-    writeln!(line, "{text}")?;
-    body.push(line.as_bytes())
+    write!(line, "{text}")?;
+    body.push_line(line.as_bytes())
 }

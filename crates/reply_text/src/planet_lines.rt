@@ -6,7 +6,7 @@ use crate::lines::push_line;
 use crate::units::Units;
 use base_ids::{Coord, Player};
 use base_text::Bytes;
-use catalog::{KINDS, UNIT_KINDS, WORKS};
+use catalog::{BUILDINGS, UNIT_KINDS, WORKS};
 use std::alloc::{AllocError, Global};
 
 /// What the first line of a planet shows: its place, its owner, its maximum temperature in degrees, its fields, and how
@@ -108,26 +108,19 @@ pub fn push_debris(
     push_line(alloc, body, format_args!("debris {metal} {crystal}"))
 }
 
-/// Appends `level BUILDING LEVEL` for each building whose level is above 0. The levels stand by the numbers of the kinds, from
-/// the metal mine to the nanite factory.
+/// Appends `level BUILDING LEVEL` for each building whose level is above 0. The levels stand in the order of `BUILDINGS`,
+/// and the lines come in this order.
 ///
 /// It fails only if memory runs out, and then appends nothing.
 pub fn push_levels(alloc: Global, body: &mut Bytes, levels: &[u8; 11]) -> Result<(), AllocError>
     ensures ok { OnOk result (body.new ≡ body.old ++ level_lines levels.now) }
     ensures err { OnErr result (body.new ≡ body.old) }
 {
-    push_kinds(
-        alloc,
-        body,
-        "level",
-        0,
-        &KINDS[..11],
-        Numbers::Levels(levels),
-    )
+    push_kinds(alloc, body, "level", 0, &BUILDINGS, Numbers::Levels(levels))
 }
 
-/// Appends `set WORK TENTHS` for each setting other than 10. The settings are those of the metal mine, the crystal mine, the
-/// deuterium synthesizer, the solar plant and the satellite, 0 to 10 tenths each. The lines come in this order.
+/// Appends `set WORK TENTHS` for each setting other than 10. The settings, 0 to 10 tenths each, stand in the order of
+/// `WORKS`, and the lines come in this order.
 ///
 /// It fails only if memory runs out, and then appends nothing.
 pub fn push_settings(alloc: Global, body: &mut Bytes, settings: &[u8; 5]) -> Result<(), AllocError>
@@ -137,8 +130,8 @@ pub fn push_settings(alloc: Global, body: &mut Bytes, settings: &[u8; 5]) -> Res
     push_kinds(alloc, body, "set", 10, &WORKS, Numbers::Levels(settings))
 }
 
-/// Appends `units UNIT COUNT` for each kind of ship or defence of which there are any. The counts stand by the numbers of the
-/// kinds, as in `UNIT_KINDS`.
+/// Appends `units UNIT COUNT` for each kind of ship or defence of which there are any. The counts stand in the order of
+/// `UNIT_KINDS`, and the lines come in this order.
 ///
 /// It fails only if memory runs out, and then appends nothing.
 pub fn push_units(alloc: Global, body: &mut Bytes, counts: &[u32; 22]) -> Result<(), AllocError>
