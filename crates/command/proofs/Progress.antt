@@ -30,12 +30,12 @@ use Rattle.base_text.proofs.Splitting.{join-parts}
 use Rattle.std.specs.List.{join_with_byte}
 use Rattle.std.proofs.lemmas.Fmt.{decimal_nonempty}
 use Rattle.request_text.proofs.Spellings.{one_call}
-use Rattle.tick_model.specs.Standing.{Stands}
-use Rattle.tick_model.specs.Step.{IsBuilt}
-use Rattle.tick_model.specs.Talk.{AsksFor, AsksNothing, CameAt}
-use Rattle.tick_model.specs.Universe.{Universe}
-use Rattle.tick_model.proofs.Talks.{Told, told-nothing, told-long, told-bad, told-answered, told-unanswered, told-all}
-use Rattle.tick_model.proofs.Worlds.{stands-base, stands-asked}
+use Rattle.strict_model.specs.Standing.{Stands}
+use Rattle.strict_model.specs.Step.{IsBuilt}
+use Rattle.strict_model.specs.Talk.{AsksFor, AsksNothing, CameAt}
+use Rattle.strict_model.specs.Universe.{Universe}
+use Rattle.strict_model.proofs.Talks.{Told, told-nothing, told-long, told-bad, told-answered, told-unanswered, told-all}
+use Rattle.strict_model.proofs.Worlds.{stands-base, stands-asked}
 use Rattle.command.specs.Answers.{Answered, AnsweredAll, AnsweredPart, BrokeOff, IsTold, Turn, too_long, asks_nothing, asked, lacks_memory, Turns}
 
 -- From a base on, these lines were answered with the bytes. The universe stands for their history, and the clock has told their

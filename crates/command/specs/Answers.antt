@@ -11,11 +11,11 @@ use Rattle.request_text.specs.declared.line_reader.LineReader.{LineReader}
 use Rattle.request_text.specs.declared.line_reader.TheConstants.{LONGEST_LINE}
 use Rattle.request_text.specs.declared.line_reader.Told.{Told}
 use Rattle.request_text.specs.declared.line_reader.Told.TheVariants.{Text, Long}
-use Rattle.tick_model.specs.Asking.{Asks}
+use Rattle.strict_model.specs.Asking.{Asks}
 use Rattle.reply_text.specs.Heads.{text}
-use Rattle.tick_model.specs.Standing.{Stands}
-use Rattle.tick_model.specs.Talk.{AsksFor, AsksNothing, CameAt, Talk, bad_line, long_line, memory_line}
-use Rattle.tick_model.specs.Universe.{Universe}
+use Rattle.strict_model.specs.Standing.{Stands}
+use Rattle.strict_model.specs.Talk.{AsksFor, AsksNothing, CameAt, Talk, bad_line, long_line, memory_line}
+use Rattle.strict_model.specs.Universe.{Universe}
 use Rattle.reply_text.specs.declared.reply.Reply.{Reply}
 use Rattle.command.specs.declared.answering.Answer.{Answer}
 use Rattle.command.specs.declared.answering.Answer.TheVariants as A

@@ -6,7 +6,7 @@ use Rattle.std.specs.Str.Lines.{lines}
 use Rattle.founding.specs.Founding.{Founds, IsBadAt, IsUnfinished}
 use Rattle.reply_text.specs.Words.{line}
 use Rattle.request_text.specs.LineReading.{Known}
-use Rattle.tick_model.specs.Universe.{Universe}
+use Rattle.strict_model.specs.Universe.{Universe}
 use Rattle.command.specs.Answers.{AnsweredAll, AnsweredPart, BrokeOff}
 use Rattle.command.specs.declared.status.TheConstants.{DONE, SOURCE_FAULT, SINK_FAULT, TOO_LONG, NOT_FOUNDED}
 

@@ -9,8 +9,8 @@ ghost use Rattle.request_text.specs.declared.line_reader.TheConstants.{LONGEST_L
 ghost use Rattle.request_text.specs.declared.call.Call.{Call};
 ghost use Rattle.command.specs.Answers.{AnsweredAll, AnsweredPart, BrokeOff, IsTold, Turns, answer_text};
 ghost use Rattle.command.specs.Statuses.{HasReason, status_of};
-ghost use Rattle.tick_model.specs.Strict.{universe_of};
-ghost use Rattle.tick_model.specs.Talk.{AsksFor, AsksNothing, CameAt};
+ghost use Rattle.strict_model.specs.Strict.{universe_of};
+ghost use Rattle.strict_model.specs.Talk.{AsksFor, AsksNothing, CameAt};
 
 use crate::asking::answer;
 use crate::status::Stopped;
@@ -19,7 +19,7 @@ use base_text::Bytes;
 use ports::{Clock, Sink, Source};
 use request_text::{Call, LineReader, Told};
 use std::alloc::Global;
-use tick_model::{StrictUniverse, is_built};
+use strict_model::{StrictUniverse, is_built};
 
 /// What a line asks for. `None` exactly if it asks for nothing.
 fn asked_for(line: &[u8]) -> Option<Call>

@@ -4,10 +4,10 @@ ghost use Rattle.base_ids.specs.declared.numbers.TheConstants.{LAST_NUMBER};
 ghost use Rattle.ports.specs.declared.clock.TheConstants.{LATEST};
 ghost use Rattle.reply_text.specs.Heads.{text};
 ghost use Rattle.reply_text.specs.declared.reply.Reply.{Reply};
-ghost use Rattle.tick_model.specs.Asking.{Asks, asked_of, brought};
-ghost use Rattle.tick_model.specs.Step.{IsBuilt};
-ghost use Rattle.tick_model.specs.Strict.{fields_of, universe_of};
-ghost use Rattle.tick_model.specs.Second.{planet_after};
+ghost use Rattle.strict_model.specs.Asking.{Asks, asked_of, brought};
+ghost use Rattle.strict_model.specs.Step.{IsBuilt};
+ghost use Rattle.strict_model.specs.Strict.{fields_of, universe_of};
+ghost use Rattle.strict_model.specs.Second.{planet_after};
 
 use base_ids::{Coord, Player};
 use base_text::Bytes;
@@ -15,10 +15,10 @@ use rates::stocks_after;
 use reply_text::{Reply, write_reply};
 use request_text::Request;
 use std::alloc::{AllocError, Global};
-use tick_model::{Planet, Rules, StrictUniverse, has_player, place_of, planet_at, show_planet};
+use strict_model::{Planet, Rules, StrictUniverse, has_player, place_of, planet_at, show_planet};
 
 /// A planet so many seconds later, in constant time.
-#[tactic(auto, using(tick_model::proofs::Listing::planets_later))]
+#[tactic(auto, using(strict_model::proofs::Listing::planets_later))]
 fn after(planet: Planet, rules: Rules, seconds: u64) -> Planet
     ensures { fields_of result ≡ planet_after seconds rules (fields_of planet) }
 {

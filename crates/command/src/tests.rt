@@ -9,7 +9,7 @@ use request_text::{LineReader, Request};
 use std::alloc::{AllocError, Global};
 use std::cell::Cell;
 use std::test::Fail;
-use tick_model::StrictUniverse;
+use strict_model::StrictUniverse;
 
 /// A universe at speed 1 and second 0, with player 1 and a planet at 1:1:1.
 const FOUNDING: &[u8] = b"universe 7 1 1000 0\nplayer 1\nplanet 1:1:1 1 40 163\n.\n";
@@ -390,7 +390,7 @@ fn the_closed_form_answers_as_the_universe_that_ticks(rt: HostRuntime) -> Result
         let player = Player { k };
         let req = Request::Planet(at);
         answer(alloc, &mut fast, player, &req, reading, &mut quick)?;
-        let reply = tick_model::ask(alloc, &mut ticking, player, &req, reading)?;
+        let reply = strict_model::ask(alloc, &mut ticking, player, &req, reading)?;
         let mut slow = Bytes::new(alloc);
         write_reply(&mut slow, &reply)?;
         assert!(rt; quick == slow);

@@ -15,9 +15,9 @@ use Rattle.base_ids.specs.Cells.{same_coord, same_player}
 use Rattle.base_ids.specs.Order.{coord_before, player_before}
 use Rattle.base_ids.specs.declared.coord.Coord.{Coord}
 use Rattle.base_ids.specs.declared.player.Player.{Player}
-use Rattle.tick_model.specs.Strict.{fields_of}
-use Rattle.tick_model.specs.Universe.{PlanetFields}
-use Rattle.tick_model.specs.declared.planet.Planet.{Planet}
+use Rattle.strict_model.specs.Strict.{fields_of}
+use Rattle.strict_model.specs.Universe.{PlanetFields}
+use Rattle.strict_model.specs.declared.planet.Planet.{Planet}
 use Rattle.founding.specs.Drafts.{first_fields, is_named, is_taken, planet_before, planets_of, put, MayName, MayStand}
 use Rattle.founding.specs.declared.draft.TheConstants.{MOST_OWNED, MOST_PLANETS}
 use Rattle.founding.specs.DraftMaps.{draft_of, place_order, player_order, IsSound}

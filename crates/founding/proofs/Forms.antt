@@ -3,7 +3,7 @@ use Rattle.std.proofs.Common.{◌≡◌, ℕ, ◌<◌, ◌≤◌, true, false, L
 use Rattle.base_text.specs.Parts.{words}
 use Rattle.base_ids.specs.declared.player.Player.{Player}
 use Rattle.request_text.specs.declared.line_reader.TheConstants.{LONGEST_LINE}
-use Rattle.tick_model.specs.Universe.{PlanetFields}
+use Rattle.strict_model.specs.Universe.{PlanetFields}
 use Rattle.founding.specs.Drafts.{first_fields, is_named, is_taken, planet_before, planets_of, put, Adds, Drafted, Gives, Names}
 use Rattle.founding.specs.Lines.{planet_words, player_words}
 use Rattle.founding.specs.declared.draft.TheConstants.{MOST_OWNED}

@@ -12,8 +12,8 @@ use Rattle.request_text.specs.declared.line_reader.Stop.{Stop}
 use Rattle.request_text.specs.declared.line_reader.Stop.TheVariants.{Fault as AtFault, Spent as AtBound}
 use Rattle.request_text.specs.declared.line_reader.LineReader.{LineReader}
 use Rattle.request_text.specs.declared.line_reader.TheConstants.{LONGEST_LINE}
-use Rattle.tick_model.specs.Strict.{universe_of}
-use Rattle.tick_model.specs.declared.strict.StrictUniverse.{StrictUniverse}
+use Rattle.strict_model.specs.Strict.{universe_of}
+use Rattle.strict_model.specs.declared.strict.StrictUniverse.{StrictUniverse}
 use Rattle.founding.specs.Drafts.{founded, Adds, AddsNothing, Drafted, Grows}
 use Rattle.founding.specs.Founding.{IsBadNext, IsEnd, IsUnfinished}
 use Rattle.founding.specs.DraftMaps.{draft_of}

@@ -2,7 +2,7 @@
 use Rattle.std.proofs.Common.{◌≡◌, ℕ, ◌+◌, ◌<◌, ◌≤◌, List, [], ◌∷◌, ◌++◌, length, refl, ap, ◌∙◌, sym, subst, arith, inl, inr, Option, Some, None, append_assoc, length-append}
 use Rattle.std.specs.Prelude.{codes, ⊤}
 use Rattle.base_text.specs.Parts.{words}
-use Rattle.tick_model.specs.Universe.{Universe}
+use Rattle.strict_model.specs.Universe.{Universe}
 use Rattle.founding.specs.Drafts.{begun, founded, Adds, AddsNothing, Drafted, Grows}
 use Rattle.founding.specs.Founding.{Founds, IsBadAt, IsBadNext, NeedsMemory, TakesMemory}
 use Rattle.founding.proofs.Hearing.{grows-more}

@@ -10,7 +10,7 @@ use Rattle.base_ids.specs.Order.{cell_before, coord_before, player_before}
 use Rattle.base_ids.specs.declared.cell_id.CellId.TheVariants.{Account, Planet}
 use Rattle.base_ids.specs.declared.coord.Coord.{Coord}
 use Rattle.base_ids.specs.declared.player.Player.{Player}
-use Rattle.tick_model.specs.Universe.{PlanetFields, Universe}
+use Rattle.strict_model.specs.Universe.{PlanetFields, Universe}
 use Rattle.founding.specs.Drafts.{first_fields, founded, planet_before, put, Adds, Drafted, Grows}
 use Rattle.founding.specs.Founding.{Founds}
 

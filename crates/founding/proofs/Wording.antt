@@ -15,7 +15,7 @@ use Rattle.base_ids.specs.Text.{coord_text, player_text}
 use Rattle.base_ids.specs.declared.coord.Coord.{Coord}
 use Rattle.base_ids.specs.declared.player.Player.{Player}
 use Rattle.ports.specs.declared.clock.TheConstants.{LATEST}
-use Rattle.tick_model.specs.declared.rules.Rules.{Rules}
+use Rattle.strict_model.specs.declared.rules.Rules.{Rules}
 use Rattle.founding.specs.Drafts.{first_fields}
 use Rattle.founding.specs.Lines.{heading_words, planet_words, player_words}
 use Rattle.founding.specs.declared.heading.Heading.{Heading}

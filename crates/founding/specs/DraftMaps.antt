@@ -6,7 +6,7 @@ use Rattle.std.specs.Ordering.{nat_cmp, ordering_then}
 use Rattle.std.specs.BTreeMap.{get, keys, values}
 use Rattle.base_ids.specs.declared.coord.Coord.{Coord}
 use Rattle.base_ids.specs.declared.player.Player.{Player}
-use Rattle.tick_model.specs.Strict.{fields_of}
+use Rattle.strict_model.specs.Strict.{fields_of}
 use Rattle.founding.specs.Drafts.{planets_of, Drafted}
 use Rattle.founding.specs.declared.draft.TheConstants.{MOST_PLANETS, MOST_PLAYERS}
 use Rattle.founding.specs.declared.draft.Draft.{Draft}

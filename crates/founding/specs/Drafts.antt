@@ -9,8 +9,8 @@ use Rattle.base_ids.specs.declared.player.Player.{Player}
 use Rattle.base_ids.specs.declared.cell_id.CellId.TheVariants.{Account, Planet}
 use Rattle.rates.specs.declared.resources.Resources.{Resources}
 use Rattle.rates.specs.declared.stock.TheConstants.{GRAINS}
-use Rattle.tick_model.specs.Strict.{own_of}
-use Rattle.tick_model.specs.Universe.{PlanetFields, Universe}
+use Rattle.strict_model.specs.Strict.{own_of}
+use Rattle.strict_model.specs.Universe.{PlanetFields, Universe}
 use Rattle.founding.specs.Lines.{heading_words, player_words, planet_words, IsLineOf}
 use Rattle.founding.specs.declared.draft.TheConstants.{MOST_OWNED, MOST_PLANETS, MOST_PLAYERS}
 use Rattle.founding.specs.declared.heading.Heading.{Heading}

@@ -3,7 +3,7 @@
 use Rattle.std.specs.Prelude.{◌≡◌, ◌+◌, ℕ, List, [], ◌∷◌, ◌++◌, codes, length, Option, None, Some, ⊤}
 use Rattle.std.specs.Str.Lines.{lines as text_lines}
 use Rattle.base_text.specs.Parts.{Lacks}
-use Rattle.tick_model.specs.Universe.{Universe}
+use Rattle.strict_model.specs.Universe.{Universe}
 use Rattle.founding.specs.Drafts.{founded, Adds, AddsNothing, Drafted, Grows}
 
 -- The lines are a founding text of this universe, and then the lines `script`: a heading and lines that each add

@@ -9,8 +9,8 @@ use Rattle.request_text.specs.LineReading.{kept, Follows, Sees}
 use Rattle.request_text.specs.declared.line_reader.LineReader.{LineReader}
 use Rattle.request_text.specs.declared.line_reader.Stop.{Stop}
 use Rattle.request_text.specs.declared.line_reader.Stop.TheVariants.{Fault as AtFault, Spent as AtBound}
-use Rattle.tick_model.specs.Strict.{universe_of}
-use Rattle.tick_model.specs.declared.strict.StrictUniverse.{StrictUniverse}
+use Rattle.strict_model.specs.Strict.{universe_of}
+use Rattle.strict_model.specs.declared.strict.StrictUniverse.{StrictUniverse}
 use Rattle.founding.specs.Drafts.{Drafted}
 use Rattle.founding.specs.Founding.{Founds, IsBadAt, IsBadNext, IsUnfinished, TakesMemory, NeedsMemory}
 use Rattle.founding.specs.declared.fault.FoundingFault.{FoundingFault}

@@ -1,6 +1,6 @@
 ghost use Rattle.std.specs.Prelude.{◌≡◌, ◌≤◌, [], length, vec_capacity, IsTrue, ◌↔◌, MatchOption, unwrap_or};
 ghost use Rattle.std.specs.BTreeMap.{keys, values};
-ghost use Rattle.tick_model.specs.Strict.{universe_of};
+ghost use Rattle.strict_model.specs.Strict.{universe_of};
 ghost use Rattle.request_text.specs.declared.line_reader.TheConstants.{LONGEST_LINE};
 ghost use Rattle.founding.specs.Drafts.{begun, founded, planets_of, Adds, Gives, MayName, MayStand, Names};
 ghost use Rattle.founding.specs.DraftMaps.{draft_of, IsSound};
@@ -13,7 +13,7 @@ use crate::read_lines::{read_planet, read_player};
 use base_ids::{Coord, Player};
 use std::alloc::Global;
 use std::collections::BTreeMap;
-use tick_model::{Planet, StrictUniverse};
+use strict_model::{Planet, StrictUniverse};
 
 /// The most players of a universe.
 pub const MOST_PLAYERS: usize = 10000;

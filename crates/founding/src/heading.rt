@@ -2,7 +2,7 @@ ghost use Rattle.std.specs.Prelude.{◌≤◌, ◌<◌, ◌^◌};
 ghost use Rattle.ports.specs.declared.clock.TheConstants.{LATEST};
 ghost use Rattle.founding.specs.declared.heading.TheConstants.{MOST_REQUESTS};
 
-use tick_model::Rules;
+use strict_model::Rules;
 
 /// The most requests that the history of a universe may keep.
 pub const MOST_REQUESTS: u32 = 262144;

@@ -1,6 +1,6 @@
 ghost use Rattle.std.specs.Prelude.{◌≡◌, ◌+◌, ◌<◌, ℕ, List, length, true, AllPairs};
 ghost use Rattle.base_ids.specs.Order.{cell_before};
-ghost use Rattle.tick_model.specs.Universe.{Universe};
+ghost use Rattle.strict_model.specs.Universe.{Universe};
 ghost use Rattle.founding.specs.Founding.{Founds, IsBadAt, NeedsMemory};
 
 /// Lines found at most one universe, and leave one script; they have at most one first bad line; and lines that found

@@ -4,7 +4,7 @@ ghost use Rattle.founding.specs.declared.new_planet.TheConstants.{MOST_FIELDS};
 
 use base_ids::{Coord, Player};
 use rates::{GRAINS, Resources};
-use tick_model::Planet;
+use strict_model::Planet;
 
 /// The most fields of a planet.
 pub const MOST_FIELDS: u16 = 400;
@@ -27,7 +27,7 @@ pub struct NewPlanet {
 
 impl NewPlanet {
     ghost use Rattle.std.specs.Prelude.{◌≡◌};
-    ghost use Rattle.tick_model.specs.Strict.{fields_of};
+    ghost use Rattle.strict_model.specs.Strict.{fields_of};
     ghost use Rattle.founding.specs.Drafts.{first_fields};
 
     /// The planet as it is founded.

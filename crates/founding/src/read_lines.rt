@@ -13,7 +13,7 @@ use catalog::TOP_SPEED;
 use ports::LATEST;
 use rates::{COLDEST, HOTTEST};
 use request_text::{coord, player};
-use tick_model::Rules;
+use strict_model::Rules;
 
 // The five words of a line that has five.
 fn five_words(line: &[u8]) -> Option<(&[u8], &[u8], &[u8], &[u8], &[u8])>

@@ -13,7 +13,7 @@ use base_text::is_same;
 use ports::Source;
 use request_text::{LineReader, Told};
 use std::alloc::Global;
-use tick_model::StrictUniverse;
+use strict_model::StrictUniverse;
 
 /// Reads a founding text up to its `.`, and no line after it. The reader then tells the lines of the script.
 ///

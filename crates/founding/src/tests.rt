@@ -5,7 +5,7 @@ use ports::MemorySource;
 use request_text::{Line, LineReader};
 use std::alloc::{AllocError, Global};
 use std::test::Fail;
-use tick_model::{Rules, StrictUniverse};
+use strict_model::{Rules, StrictUniverse};
 
 // What comes of a text that is read in pieces.
 fn founding_of(

@@ -1,9 +1,9 @@
 use Rattle.std.proofs.Common.{◌≡◌, ◌∷◌, [], ◌*◌, ◌+◌, ◌≤◌, length, ◌∙◌, ap, arith, sym, subst}
 use Rattle.ports.proofs.Tellings.{tells-none}
-use Rattle.tick_model.specs.Strict.{universe_of}
-use Rattle.tick_model.specs.Talk.{memory_line}
-use Rattle.tick_model.specs.Universe.{Universe}
-use Rattle.tick_model.proofs.Worlds.{asked-number}
+use Rattle.strict_model.specs.Strict.{universe_of}
+use Rattle.strict_model.specs.Talk.{memory_line}
+use Rattle.strict_model.specs.Universe.{Universe}
+use Rattle.strict_model.proofs.Worlds.{asked-number}
 use Rattle.command.specs.Answers.{Turn, asks_nothing, asked, lacks_memory}
 use Rattle.command.proofs.Progress.{two_bytes}
 use Rattle.command.proofs.answering.answer_line.Goals as goal

@@ -4,7 +4,7 @@ use Rattle.std.specs.Str.Lines.{lines}
 use Rattle.request_text.proofs.LineKnowing.{known-same, known-then}
 use Rattle.request_text.specs.LineReading.{Leaves, Sees, Tells, advance, ahead, kept, line_of, stop_of, taken}
 use Rattle.request_text.specs.declared.line_reader.Line.{Line}
-use Rattle.tick_model.specs.Strict.{universe_of}
+use Rattle.strict_model.specs.Strict.{universe_of}
 use Rattle.command.specs.Answers.{AnsweredAll, AnsweredPart, BrokeOff, answer_text}
 use Rattle.command.proofs.Progress.{Come, Goes, come-broken, come-end, come-more, come-part, come-start, stop_lacks, stop_stays, told_line, told_nearer, told_unfailed}
 use Rattle.command.proofs.answering.answer_lines.Goals as goal

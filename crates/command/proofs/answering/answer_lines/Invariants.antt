@@ -2,7 +2,7 @@
 use Rattle.std.proofs.Common.{◌≡◌, ℕ, ◌+◌, ◌*◌, ◌≤◌, List, length}
 use Rattle.request_text.specs.LineReading.{Known, Sees, ahead, taken}
 use Rattle.request_text.specs.declared.line_reader.TheConstants.{MOST_TAKEN}
-use Rattle.tick_model.specs.Strict.{universe_of}
+use Rattle.strict_model.specs.Strict.{universe_of}
 use Rattle.command.proofs.Progress.{Come}
 use Rattle.command.proofs.answering.answer_lines.Given as goal
 

@@ -1,9 +1,9 @@
 use Rattle.std.proofs.Common.{◌≡◌, ◌+◌, ◌-◌, ◌∙◌, ap, arith, map}
 use Rattle.std.proofs.lemmas.Grind.{common_steps}
 use Rattle.std.specs.Vec.{with_items}
-use Rattle.tick_model.specs.Second.{planet_after}
-use Rattle.tick_model.specs.Strict.{fields_of}
-use Rattle.tick_model.proofs.Listing.{standing, standing_after}
+use Rattle.strict_model.specs.Second.{planet_after}
+use Rattle.strict_model.specs.Strict.{fields_of}
+use Rattle.strict_model.proofs.Listing.{standing, standing_after}
 use Rattle.command.proofs.asking.advance.Goals as goal
 
 pub returns : goal.returns

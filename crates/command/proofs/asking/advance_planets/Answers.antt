@@ -1,7 +1,7 @@
 use Rattle.std.proofs.Common.{◌<◌, length, arith}
-use Rattle.tick_model.specs.Second.{planet_after}
-use Rattle.tick_model.specs.Strict.{fields_of}
-use Rattle.tick_model.proofs.Maps.{mapped_more}
+use Rattle.strict_model.specs.Second.{planet_after}
+use Rattle.strict_model.specs.Strict.{fields_of}
+use Rattle.strict_model.proofs.Maps.{mapped_more}
 use Rattle.command.proofs.asking.advance_planets.Goals as goal
 
 pub planets-preserved : goal.planets-preserved

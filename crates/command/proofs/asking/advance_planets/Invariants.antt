@@ -1,7 +1,7 @@
 -- The planets passed so far have gained, and the others are as they were.
 use Rattle.std.proofs.Common.{◌≡◌, map, take, drop}
-use Rattle.tick_model.specs.Second.{planet_after}
-use Rattle.tick_model.specs.Strict.{fields_of}
+use Rattle.strict_model.specs.Second.{planet_after}
+use Rattle.strict_model.specs.Strict.{fields_of}
 use Rattle.command.proofs.asking.advance_planets.Given as goal
 
 abbrev pub invariant-planets : goal.invariant-planets

@@ -1,9 +1,9 @@
 use Rattle.std.proofs.Common.{◌≡◌, ◌+◌, ◌++◌, ◌∙◌, ap, max, sym}
 use Rattle.reply_text.specs.Heads.{text}
-use Rattle.tick_model.specs.Asking.{brought}
-use Rattle.tick_model.specs.Strict.{universe_of}
-use Rattle.tick_model.specs.Universe.{Universe}
-use Rattle.tick_model.proofs.Steps.{built_universe}
+use Rattle.strict_model.specs.Asking.{brought}
+use Rattle.strict_model.specs.Strict.{universe_of}
+use Rattle.strict_model.specs.Universe.{Universe}
+use Rattle.strict_model.proofs.Steps.{built_universe}
 use Rattle.command.proofs.asking.answer.Goals as goal
 
 pub returns-clause-ok : goal.returns-clause-ok

@@ -1,8 +1,8 @@
 use Rattle.std.proofs.Common.{◌∙◌, Some, ap, map, sym}
 use Rattle.std.specs.Prelude.{option_map}
-use Rattle.tick_model.specs.Second.{planet_after}
-use Rattle.tick_model.specs.Strict.{fields_of}
-use Rattle.tick_model.proofs.Listing.{found_after, found_fields}
+use Rattle.strict_model.specs.Second.{planet_after}
+use Rattle.strict_model.specs.Strict.{fields_of}
+use Rattle.strict_model.proofs.Listing.{found_after, found_fields}
 use Rattle.command.proofs.asking.planet_later.Goals as goal
 
 pub returns : goal.returns

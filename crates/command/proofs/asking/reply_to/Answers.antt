@@ -3,12 +3,12 @@ use Rattle.std.specs.Prelude.{find, map}
 use Rattle.std.specs.List.{list_any}
 use Rattle.base_ids.specs.Cells.{same_coord, same_player}
 use Rattle.base_ids.specs.declared.cell_id.CellId.TheVariants.{Account, Planet}
-use Rattle.tick_model.specs.Asking.{brought}
-use Rattle.tick_model.specs.Second.{planet_after}
-use Rattle.tick_model.specs.Strict.{fields_of, own_account, own_planet, universe_of}
-use Rattle.tick_model.specs.Universe.{view}
-use Rattle.tick_model.proofs.Listing.{standing, standing_after}
-use Rattle.tick_model.proofs.Steps.{asked_reply, comes_as}
+use Rattle.strict_model.specs.Asking.{brought}
+use Rattle.strict_model.specs.Second.{planet_after}
+use Rattle.strict_model.specs.Strict.{fields_of, own_account, own_planet, universe_of}
+use Rattle.strict_model.specs.Universe.{view}
+use Rattle.strict_model.proofs.Listing.{standing, standing_after}
+use Rattle.strict_model.proofs.Steps.{asked_reply, comes_as}
 use Rattle.command.proofs.asking.reply_to.Goals as goal
 
 pub returns : goal.returns

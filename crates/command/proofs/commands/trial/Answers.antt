@@ -4,7 +4,7 @@ use Rattle.founding.specs.Reading.{Reads}
 use Rattle.founding.specs.declared.fault.FoundingFault.{FoundingFault}
 use Rattle.request_text.proofs.LineKnowing.{known-map, known-then}
 use Rattle.request_text.specs.LineReading.{Known}
-use Rattle.tick_model.specs.Strict.{universe_of}
+use Rattle.strict_model.specs.Strict.{universe_of}
 use Rattle.command.specs.Statuses.{status_of}
 use Rattle.command.specs.Trial.{NamedBad, NamedBroken, Trial, Tried, TriedBroken, TriedPart, Unfounded}
 use Rattle.command.specs.declared.status.Stopped.TheVariants.{SourceFault, SinkFault, TooLong, NoMemory, NotFounded}

@@ -4,8 +4,8 @@ use Rattle.std.proofs.lemmas.List.{length-map}
 use Rattle.std.proofs.lemmas.Map.Entries.{length-values_of}
 use Rattle.std.specs.List.{AllByRecursion}
 use Rattle.std.specs.Map.{values_of}
-use Rattle.tick_model.specs.Strict.{fields_of}
-use Rattle.tick_model.specs.Universe.{PlanetFields}
+use Rattle.strict_model.specs.Strict.{fields_of}
+use Rattle.strict_model.specs.Universe.{PlanetFields}
 use Rattle.founding.specs.Drafts.{planet_before, put, Gives}
 use Rattle.founding.specs.DraftMaps.{draft_of, place_order}
 use Rattle.founding.proofs.Finding.{named_found, planet_sound, stranger_refused, taken_absent, taken_put}

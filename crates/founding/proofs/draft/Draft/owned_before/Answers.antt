@@ -3,7 +3,7 @@ use Rattle.std.specs.Prelude.{MatchOption}
 use Rattle.std.proofs.lemmas.List.{length-map}
 use Rattle.std.proofs.lemmas.Map.Entries.{length-values_of}
 use Rattle.std.specs.Map.{values_of}
-use Rattle.tick_model.specs.Strict.{fields_of}
+use Rattle.strict_model.specs.Strict.{fields_of}
 use Rattle.founding.specs.Drafts.{planets_of, MayStand}
 use Rattle.founding.specs.DraftMaps.{draft_of}
 use Rattle.founding.proofs.Finding.{owned_found, stranger_refused, taken_refused}
