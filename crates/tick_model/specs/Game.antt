@@ -1,0 +1,56 @@
+-- The game as a ticking model: what the theory of laziness asks for, each by its definition.
+use Rattle.std.specs.Prelude.{◌≡◌, ℕ, Bool, true, false, length}
+use Rattle.base_ids.specs.Cells.{same_cell}
+use Rattle.base_ids.specs.Order.{key_before}
+use Rattle.base_ids.specs.declared.cell_id.CellId.{CellId}
+use Rattle.base_ids.specs.declared.cell_id.CellId.TheVariants.{Account}
+use Rattle.request_text.specs.declared.entry.Entry.{Entry}
+use Rattle.reply_text.specs.declared.reply.Reply.{Reply}
+use Rattle.laziness.specs.Model.{Model}
+use Rattle.tick_model.specs.Events.{Event, Owes, effect, footprint, home, key_of, next_event, second_of}
+use Rattle.tick_model.specs.Production.{advance, gains}
+use Rattle.tick_model.specs.Requests.{asked}
+use Rattle.tick_model.specs.Rules.{KeepsRules}
+use Rattle.tick_model.specs.Step.{step}
+use Rattle.tick_model.specs.Universe.{Own, of_planet, Setting, State}
+use Rattle.tick_model.specs.Views.{View, view}
+
+-- a planet can't be brought to a second without its owner's account
+abbrev pub own_brings : Own → CellId → Bool
+own_brings (of_planet planet) cell = same_cell (Account planet.owner) cell
+own_brings _ cell = false
+
+-- the cells without which a cell can't be brought to a second
+abbrev pub brings : View → ℕ → CellId → Bool
+brings seen second cell = own_brings seen.own cell
+
+abbrev pub game : Setting → Model
+game setting = record {
+  Universe = State;
+  Id = CellId;
+  View = View;
+  view = view setting.cells;
+  ids = setting.cells;
+  Event = Event;
+  second_of = second_of;
+  home = home;
+  Owes = Owes;
+  footprint = footprint;
+  Before = λ one other. key_before (key_of one) (key_of other) ≡ true;
+  effect = effect setting;
+  next = next_event setting;
+  measure = λ state. length state.items;
+  gains = gains setting.rules;
+  advance = advance setting;
+  Ask = Entry;
+  Reply = Reply;
+  Entry = Entry;
+  moment_of = λ entry. entry.moment;
+  ask_of = λ entry. entry;
+  asks = λ entry seen. asked seen entry.player entry.req;
+  brings = brings;
+  act = λ entry moment state. (step setting entry.player entry.req moment state).state;
+  reply = λ entry moment state. (step setting entry.player entry.req moment state).reply;
+  count = λ state. state.number;
+  Fine = KeepsRules setting;
+}

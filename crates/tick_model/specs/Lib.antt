@@ -1,0 +1,17 @@
+pub mod Universe
+pub mod Views
+pub mod Production
+pub mod Buildings
+pub mod Changes
+pub mod Events
+pub mod Refusals
+pub mod Lines
+pub mod Requests
+pub mod Step
+pub mod Rules
+pub mod Game
+pub mod World
+pub mod History
+pub mod Standing
+pub mod Talk
+pub mod Dump

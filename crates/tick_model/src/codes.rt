@@ -1,0 +1,29 @@
+/// The caller isn't a player.
+pub const NO_PLAYER: u8 = 1;
+
+/// No planet stands at the place.
+pub const NO_PLANET: u8 = 2;
+
+/// The planet is somebody else's.
+pub const NOT_YOURS: u8 = 3;
+
+/// The queue has as many items as it may have.
+pub const QUEUE_FULL: u8 = 4;
+
+/// The level and the items of the kind that are queued reach the highest level.
+pub const LEVEL_CAP: u8 = 5;
+
+/// A prerequisite isn't met.
+pub const REQUIRES: u8 = 6;
+
+/// The levels and the buildings that are queued reach the planet's fields.
+pub const NO_FIELDS: u8 = 7;
+
+/// The planet can't pay.
+pub const POOR: u8 = 12;
+
+/// The form of the request isn't played yet. No text shows this code, since no line asks for such a form.
+pub const NOT_BUILT: u8 = 255;
+
+/// The most items of a queue, the one that runs included.
+pub const MOST_QUEUED: usize = 5;

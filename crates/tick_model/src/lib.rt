@@ -1,0 +1,13 @@
+//! The game as it ticks second by second: the definitions that every answer of the server is held to.
+#![tactic(auto)]
+
+mod codes;
+mod debris;
+mod rules;
+
+pub use codes::{
+    LEVEL_CAP, MOST_QUEUED, NO_FIELDS, NO_PLANET, NO_PLAYER, NOT_BUILT, NOT_YOURS, POOR,
+    QUEUE_FULL, REQUIRES,
+};
+pub use debris::Debris;
+pub use rules::Rules;
