@@ -1,5 +1,6 @@
 pub mod Energy
 pub mod Formulas
+pub mod Production
 pub mod Stock
 pub mod Times
 pub mod Yields
