@@ -2,3 +2,10 @@ pub mod Lists
 pub mod Writes
 pub mod Owns
 pub mod Gains
+pub mod Asked
+pub mod Outcomes
+pub mod Requeued
+pub mod Written
+pub mod Arising
+pub mod RulesKept
+pub mod Requesting
