@@ -11,7 +11,7 @@ use Rattle.std.specs.Ordering.{is_eq, nat_cmp, ordering_then}
 use Rattle.std.specs.declared.cmp.Ordering.{Ordering}
 use Rattle.std.specs.declared.cmp.Ordering.TheVariants.{Less, Equal, Greater}
 use Rattle.base_ids.specs.Cells.{same_coord, same_player}
-use Rattle.base_ids.specs.declared.cell_id.CellId.TheVariants.{Planet}
+use Rattle.base_ids.specs.declared.cell_id.CellId.TheVariants.{Account, Planet}
 use Rattle.base_ids.specs.declared.coord.Coord.{Coord}
 use Rattle.base_ids.specs.declared.player.Player.{Player}
 use Rattle.base_ids.proofs.Names.{coord_is, player_is}
@@ -64,3 +64,6 @@ holds_within P xs ys zs y all parts =
     let some : 0 < length (y ∷ ys) = omega arith in
     let within : length xs < length zs = omega arith in
     subst P (ap (λ l. get_or l (length xs) y) (sym parts) ∙ get_or-append_seam xs y ys y) (all (length xs) y within)
+
+pub player_at_is : (a b : Player) → is_at (player_order a) b ≡ true → a ≡ b
+player_at_is a b is = let same : Account a ≡ Account b = cell-is (Account a) (Account b) (sym (at_player a b) ∙ is) in cc

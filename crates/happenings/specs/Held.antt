@@ -1,5 +1,7 @@
 -- Which cells are held, and what they show of a universe whose cells stand at seconds of their own.
-use Rattle.std.specs.Prelude.{◌≡◌, ℕ, Bool, [], Option, None, Some, IfSome, is_some, option_map}
+use Rattle.std.specs.Prelude.{◌≡◌, ℕ, Bool, List, [], Option, None, Some, IfSome, is_some, option_map, ◌&&◌, if◌then◌else◌}
+use Rattle.std.specs.List.{list_any}
+use Rattle.base_ids.specs.Cells.{same_cell}
 use Rattle.std.specs.BTreeMap.{get}
 use Rattle.base_ids.specs.declared.cell_id.CellId.{CellId}
 use Rattle.base_ids.specs.declared.cell_id.CellId.TheVariants.{Account as AccountId, Planet as PlanetId}
@@ -51,8 +53,27 @@ pub record ShowsCell (setting : Setting) (f : Stamps (game setting)) (cell : Cel
   pub second : stand.second ≡ f.at cell
   pub seen : stand.seen ≡ view setting.cells f.universe cell
 
--- Every cell that is held shows the universe, and is kept under its own name.
-pub record Shows (setting : Setting) (held : Held) (f : Stamps (game setting)) : Type 0 where
-  pub cells : (cell : CellId) → IfSome (held_at held cell) (ShowsCell setting f cell)
+-- every cell that is held shows the universe
+abbrev pub Shows : (setting : Setting) → Held → Stamps (game setting) → Type 0
+Shows setting held f = (cell : CellId) → IfSome (held_at held cell) (ShowsCell setting f cell)
+
+-- each cell is kept under its own name
+pub record IsNamed (held : Held) : Type 0 where
   pub players : (player : Player) → IfSome (get player_order held.accounts player) (λ cell. cell.account.player ≡ player)
   pub places : (at : Coord) → IfSome (get place_order held.planets at) (λ cell. cell.planet.at ≡ at)
+
+-- one cell is held anew, and all others as before
+abbrev pub Puts : Held → Held → CellId → Stand → Type 0
+Puts old new name stand = (cell : CellId) → held_at new cell ≡ (if same_cell name cell then Some stand else held_at old cell)
+
+-- just these cells are held, each as it was held before
+abbrev pub Picks : Held → List CellId → Held → Type 0
+Picks old names new = (cell : CellId) → held_at new cell ≡ (if list_any (same_cell cell) names then held_at old cell else None)
+
+-- the same cells are held, each as it was held before
+abbrev pub IsEqual : Held → Held → Type 0
+IsEqual old new = (cell : CellId) → held_at new cell ≡ held_at old cell
+
+-- a cell that is held there is held here too, and all others as before
+abbrev pub Copies : Held → CellId → Held → Held → Type 0
+Copies there name old new = (cell : CellId) → held_at new cell ≡ (if same_cell name cell && holds there cell then held_at there cell else held_at old cell)
