@@ -1,10 +1,10 @@
 -- The order of events, and the first of some events.
-use Rattle.std.proofs.Common.{◌≡◌, ℕ, ◌<◌, ◌≤◌, ◌⊎◌, inl, inr, Bool, true, false, cond, eqb, ltb, List, [], ◌∷◌, Option, None, Some, arith, refl, ap, ◌∙◌, sym, subst}
+use Rattle.std.proofs.Common.{◌≡◌, ℕ, ◌<◌, ◌≤◌, inl, inr, Bool, true, false, cond, List, [], ◌∷◌, Option, None, Some, arith, refl, ap, ◌∙◌, sym, subst}
 use Rattle.std.proofs.lemmas.Bool.Decides.{nat_tests}
 use Rattle.base_ids.specs.Order.{EventKey, key_before}
 use Rattle.base_ids.proofs.Ordering.{events_ordered, lex}
 use Rattle.laziness.proofs.Bringing.{test, never}
-use Rattle.tick_model.specs.Events.{Event, first_event, key_of, second_of, sooner}
+use Rattle.tick_model.specs.Events.{Event, first_event, key_of, sooner}
 use Rattle.tick_model.specs.Rules.{IsIn}
 use Rattle.tick_model.proofs.Lists.{fails}
 

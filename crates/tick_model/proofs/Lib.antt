@@ -5,4 +5,5 @@ pub mod Gains
 pub mod Keys
 pub mod Queues
 pub mod Nexts
+pub mod Follows
 pub mod Effects

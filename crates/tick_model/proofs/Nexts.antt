@@ -1,12 +1,12 @@
 -- The next event is found, if one is due.
-use Rattle.std.proofs.Common.{◌≡◌, ℕ, ◌≤◌, ◌⊎◌, inl, inr, Bool, true, false, nat_le, cond, List, [], ◌∷◌, ◌++◌, Option, None, Some, Contains, filter, arith, refl, ap, ◌∙◌, sym, subst}
+use Rattle.std.proofs.Common.{◌≡◌, ℕ, ◌≤◌, inl, inr, Bool, true, false, nat_le, cond, List, [], ◌∷◌, None, Some, Contains, arith, refl, sym, subst}
 use Rattle.std.proofs.lemmas.Bool.Decides.{nat_tests}
 use Rattle.std.proofs.lemmas.List.Elements.{All-cons, All-contains, All-nil, All-weaker}
 use Rattle.std.specs.List.{All}
 use Rattle.base_ids.specs.declared.cell_id.CellId.{CellId}
 use Rattle.laziness.specs.Laws.{IsNext, NoneDue}
 use Rattle.laziness.proofs.Bringing.{never}
-use Rattle.tick_model.specs.Events.{Event, built, Owes, due_by, due_events, first_built, first_event, home, next_event, owed, second_of}
+use Rattle.tick_model.specs.Events.{Event, built, Owes, due_by, due_events, first_built, home, next_event, owed, second_of}
 use Rattle.tick_model.specs.Game.{game}
 use Rattle.tick_model.specs.Rules.{IsIn, KeepsRules}
 use Rattle.tick_model.specs.Universe.{Buildings, Item, Setting, State}
@@ -75,7 +75,7 @@ due-listed some second seen (first ∷ cells) e cell due (inl same) =
     in-filter (λ event. nat_le (second_of event) second) e (owed (seen cell)) (owed-from (seen cell) e due.owes) (le-is (second_of e) second due.due) in
     let listed : IsIn e (cond (some cell) (due_by second (seen cell)) []) = rw due.inside here in
     in-first e (cond (some first) (due_by second (seen first)) []) (due_events some second seen cells)
-        (subst (λ x. IsIn e (cond (some x) (due_by second (seen x)) [])) same listed)
+    (subst (λ x. IsIn e (cond (some x) (due_by second (seen x)) [])) same listed)
 due-listed some second seen (first ∷ cells) e cell due (inr later) =
     in-second e (cond (some first) (due_by second (seen first)) []) (due_events some second seen cells) (due-listed some second seen cells e cell due later)
 
@@ -85,7 +85,7 @@ pub stands-listed : (setting : Setting) (some : CellId → Bool) (second : ℕ) 
 stands-listed setting some second state (built item later) fine stands inside due =
     let listed = fine.queued item (queued setting.cells state item later stands item (inl refl)).within in
     due-listed some second (view setting.cells state) setting.cells (built item later) item.cell (record { inside = inside; owes = stands; due = due })
-        (in-contained setting.cells item.cell listed)
+    (in-contained setting.cells item.cell listed)
 
 -- what a cell owes is due at home
 pub due-home : (setting : Setting) (some : CellId → Bool) (second : ℕ) (state : State) (e : Event) (cell : CellId) → IsDue some second (view setting.cells state) e cell

@@ -1,5 +1,5 @@
 -- The building queue of a cell among all items, and the event that a cell owes.
-use Rattle.std.proofs.Common.{◌≡◌, ℕ, inl, inr, Bool, true, false, not, eqb, ◌&&◌, List, [], ◌∷◌, ◌++◌, Contains, filter, refl, ap, ◌∙◌, sym, subst}
+use Rattle.std.proofs.Common.{◌≡◌, inl, true, false, not, eqb, ◌&&◌, List, ◌∷◌, ◌++◌, filter, refl, ap, ◌∙◌, sym, subst}
 use Rattle.std.proofs.lemmas.List.Elements.{filter-append}
 use Rattle.base_ids.specs.Cells.{same_cell}
 use Rattle.base_ids.specs.Order.{key_before}
@@ -7,8 +7,8 @@ use Rattle.base_ids.specs.declared.cell_id.CellId.{CellId}
 use Rattle.base_ids.proofs.Ordering.{events_ordered}
 use Rattle.laziness.proofs.Bringing.{never}
 use Rattle.tick_model.specs.Events.{Event, built, Owes, home, key_of}
-use Rattle.tick_model.specs.Rules.{AreDistinct, IsIn, KeepsRules, same_order}
-use Rattle.tick_model.specs.Universe.{Buildings, Item, Own, QueueClass, Setting, State, same_class}
+use Rattle.tick_model.specs.Rules.{IsIn, KeepsRules}
+use Rattle.tick_model.specs.Universe.{Buildings, Item, Own, Setting, State, same_class}
 use Rattle.tick_model.specs.Views.{queue, stands_in, view}
 use Rattle.tick_model.proofs.Lists.{and-from, and-is, cell-is, cell-turned, class-from, class-is, class-turned, distinct-one, fails, filter-all, filter-alike, filter-both, filter-none, from-filter, same_number}
 use Rattle.tick_model.proofs.Writes.{is_building_at, with_buildings}
@@ -18,7 +18,7 @@ pub buildings-at : (items : List Item) (cell : CellId) → queue Buildings (filt
 buildings-at items cell =
     filter-both (λ item. same_class item.class Buildings) (stands_in cell) items
     ∙ filter-alike (λ item. stands_in cell item && same_class item.class Buildings) (is_building_at cell) items (
-        λ item is i. cell-turned item.cell cell i && class-turned item.class Buildings i)
+    λ item is i. cell-turned item.cell cell i && class-turned item.class Buildings i)
 
 -- an event stands if its items are the building queue of their cell
 pub standing : (cells : List CellId) (state : State) (item : Item) (later : List Item) → Owes (view cells state item.cell) (built item later)
@@ -58,7 +58,7 @@ pub buildings-after : (cell : CellId) (own : Own) (items : List Item) (state : S
 buildings-after cell own items state there =
     let others = filter (λ (item : Item). not (is_building_at cell item)) state.items in
     let none = filter-none (is_building_at cell) others (λ item is. fails (is_building_at cell item) (λ here.
-        never (not (is_building_at cell item)) (from-filter (λ x. not (is_building_at cell x)) item state.items is).1 (ap not here))) in
+    never (not (is_building_at cell item)) (from-filter (λ x. not (is_building_at cell x)) item state.items is).1 (ap not here))) in
     filter-append (is_building_at cell) others items ∙ (λ i. none i ++ filter-all (is_building_at cell) items there i)
 
 tails : (a b : Item) (as_a as_b : List Item) → a ∷ as_a ≡ b ∷ as_b → as_a ≡ as_b
