@@ -7,3 +7,4 @@ pub mod Queues
 pub mod Nexts
 pub mod Follows
 pub mod Effects
+pub mod Laws1
