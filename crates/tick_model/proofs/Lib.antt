@@ -9,3 +9,4 @@ pub mod Written
 pub mod Arising
 pub mod RulesKept
 pub mod Requesting
+pub mod Worlds
