@@ -10,3 +10,5 @@ pub mod Arising
 pub mod RulesKept
 pub mod Requesting
 pub mod Worlds
+pub mod Talks
+pub mod Once
