@@ -2,7 +2,6 @@
 use Rattle.std.proofs.Common.{◌≡◌, ℕ, zero, suc, ◌+◌, true, arith, refl, ap, ◌∙◌, sym}
 use Rattle.std.proofs.Math.Path.{fun_ext}
 use Rattle.base_ids.specs.declared.cell_id.CellId.{CellId}
-use Rattle.base_ids.specs.declared.cell_id.CellId.TheVariants.{Account}
 use Rattle.rates.specs.Times.{times}
 use Rattle.request_text.specs.declared.entry.Entry.{Entry}
 use Rattle.tick_model.specs.Events.{Event, built, Owes}
@@ -13,7 +12,8 @@ use Rattle.tick_model.specs.Rules.{KeepsRules}
 use Rattle.tick_model.specs.declared.rules.Rules.{Rules}
 use Rattle.tick_model.specs.Universe.{Own, of_nothing, of_account, of_planet, Buildings, Setting, State}
 use Rattle.tick_model.specs.Views.{View, holding, planets_of, queue, units_of, view}
-use Rattle.tick_model.proofs.Owns.{asked-same, brings-same, owned-kept}
+use Rattle.tick_model.proofs.Asked.{asked-same}
+use Rattle.tick_model.proofs.Owns.{brings-same, owned-kept}
 
 second-there : (rules : Rules) (own : Own) → is_there (own_second rules own) ≡ is_there own
 second-there rules of_nothing = refl
@@ -100,7 +100,5 @@ advance-keeps setting k state fine =
     }
 
 pub advance-asked : (setting : Setting) (k : CellId → ℕ) (state : State) (entry : Entry) (y : CellId)
-    → asked (view setting.cells (advance setting k state)) entry.player entry.req y ≡ asked (view setting.cells state) entry.player entry.req y
-advance-asked setting k state entry y =
-    let there = λ (x : CellId). (gained setting.rules (k x) (view setting.cells state x)).there in
-    asked-same (view setting.cells (advance setting k state)) (view setting.cells state) entry.player entry.req y (there (Account entry.player)) (there y)
+    → asked setting.cells (view setting.cells (advance setting k state)) entry.player entry.req y ≡ asked setting.cells (view setting.cells state) entry.player entry.req y
+advance-asked setting k state entry y = asked-same setting.cells (view setting.cells (advance setting k state)) (view setting.cells state) entry.player entry.req y

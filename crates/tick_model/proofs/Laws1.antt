@@ -13,7 +13,8 @@ use Rattle.tick_model.specs.Requests.{asked}
 use Rattle.tick_model.specs.Rules.{KeepsRules}
 use Rattle.tick_model.specs.Universe.{Setting, State}
 use Rattle.tick_model.specs.Views.{View, view}
-use Rattle.tick_model.proofs.Effects.{event-asked, event-brings, event-depends, event-falls, event-keeps, event-later, event-outside}
+use Rattle.tick_model.proofs.Asked.{asked-same}
+use Rattle.tick_model.proofs.Effects.{event-brings, event-depends, event-falls, event-keeps, event-later, event-outside}
 use Rattle.tick_model.proofs.Gains.{advance-asked, advance-keeps, gains-bring, gains-owe, gains-owed, more-gained, none-gained, view-advanced}
 use Rattle.tick_model.proofs.Keys.{key-later, key-sooner}
 use Rattle.tick_model.proofs.Lists.{cell-is, cell-itself, fails}
@@ -48,8 +49,8 @@ advance_count setting k u = refl
 pub advance_measure : (setting : Setting) (k : CellId → ℕ) (u : State) → length (advance setting k u).items ≡ length u.items
 advance_measure setting k u = refl
 
-pub advance_asks : (setting : Setting) (k : CellId → ℕ) (u : State) (a : Entry) (y : CellId) → asked (view setting.cells (advance setting k u)) a.player a.req y ≡ true
-    → asked (view setting.cells u) a.player a.req y ≡ true
+pub advance_asks : (setting : Setting) (k : CellId → ℕ) (u : State) (a : Entry) (y : CellId) → asked setting.cells (view setting.cells (advance setting k u)) a.player a.req y ≡ true
+    → asked setting.cells (view setting.cells u) a.player a.req y ≡ true
 advance_asks setting k u a y asks = sym (advance-asked setting k u a y) ∙ asks
 
 pub sooner_first : (setting : Setting) (e d : Event) → second_of e < second_of d → key_before (key_of e) (key_of d) ≡ true
@@ -98,9 +99,10 @@ pub widens : (setting : Setting) (u : State) (e : Event) (t : ℕ) (x y : CellId
 widens setting u e t x y fine stands has brought = inl (sym (event-brings setting u e t x y stands) ∙ brought)
 
 pub asks_after : (setting : Setting) (u : State) (e : Event) (a : Entry) (y : CellId) → KeepsRules setting u → Stands (game setting) u e
-    → asked (view setting.cells (effect setting e u)) a.player a.req y ≡ true
-    → (asked (view setting.cells u) a.player a.req y ≡ true) ⊎ (footprint e y ≡ true)
-asks_after setting u e a y fine stands asks = inl (sym (event-asked setting u e a y) ∙ asks)
+    → asked setting.cells (view setting.cells (effect setting e u)) a.player a.req y ≡ true
+    → (asked setting.cells (view setting.cells u) a.player a.req y ≡ true) ⊎ (footprint e y ≡ true)
+asks_after setting u e a y fine stands asks =
+    inl (asked-same setting.cells (view setting.cells u) (view setting.cells (effect setting e u)) a.player a.req y ∙ asks)
 
 pub effect_count : (setting : Setting) (u : State) (e : Event) → (effect setting e u).number ≡ u.number
 effect_count setting u e = refl

@@ -7,4 +7,15 @@ pub mod Queues
 pub mod Nexts
 pub mod Follows
 pub mod Effects
+pub mod Asked
+pub mod Outcomes
+pub mod Requeued
+pub mod Written
+pub mod Arising
+pub mod RulesKept
+pub mod Requesting
+pub mod Worlds
+pub mod Talks
+pub mod Once
 pub mod Laws1
+pub mod GameLaws

@@ -1,35 +1,12 @@
--- What depends on less than all that a cell has of its own: whether it is there, and what its owner's account counts of it.
-use Rattle.std.proofs.Common.{◌≡◌, Bool, false, ◌&&◌, ◌||◌, List, Option, None, Some, Contains, refl, ap, ◌∙◌, sym, subst}
+-- What depends on less than all that a cell has of its own: what its owner's account counts of it.
+use Rattle.std.proofs.Common.{◌≡◌, Bool, false, List, Option, None, Some, Contains, refl, ap, ◌∙◌, sym, subst}
 use Rattle.base_ids.specs.Cells.{same_cell}
 use Rattle.base_ids.specs.declared.player.Player.{Player}
 use Rattle.base_ids.specs.declared.cell_id.CellId.{CellId}
 use Rattle.base_ids.specs.declared.cell_id.CellId.TheVariants.{Account}
-use Rattle.request_text.specs.declared.request.Request.{Request}
-use Rattle.request_text.specs.declared.request.Request.TheVariants.{Planet as PlanetOf, Account as AccountOf, Fleets as FleetsOf, System as SystemOf, Build, Research, Yard as YardOf, Set, Send, Join, Recall}
 use Rattle.tick_model.specs.Game.{own_brings}
-use Rattle.tick_model.specs.Requests.{asked, is_there, names}
 use Rattle.tick_model.specs.Universe.{Own, of_nothing, of_account, of_planet, PlanetFields}
-use Rattle.tick_model.specs.Views.{Holding, View, holding}
-
-names-same : (one other : CellId → View) (req : Request) (cell : CellId) → names one req cell ≡ names other req cell
-names-same one other (PlanetOf at) cell = refl
-names-same one other AccountOf cell = refl
-names-same one other FleetsOf cell = refl
-names-same one other (SystemOf system) cell = refl
-names-same one other (Build at building) cell = refl
-names-same one other (Research at technology) cell = refl
-names-same one other (YardOf at unit count) cell = refl
-names-same one other (Set at work tenths) cell = refl
-names-same one other (Send from to mission speed ships cargo) cell = refl
-names-same one other (Join fleet from to speed ships cargo) cell = refl
-names-same one other (Recall fleet) cell = refl
-
--- a request asks for the same if the caller's account and that cell are there or not as before
-pub asked-same : (one other : CellId → View) (player : Player) (req : Request) (cell : CellId)
-    → is_there (one (Account player)).own ≡ is_there (other (Account player)).own → is_there (one cell).own ≡ is_there (other cell).own
-    → asked one player req cell ≡ asked other player req cell
-asked-same one other player req cell caller there =
-    λ i. caller i && there i && (same_cell (Account player) cell || names-same one other req cell i)
+use Rattle.tick_model.specs.Views.{Holding, holding}
 
 -- the account of a planet's owner
 abbrev pub brings_by : Option Holding → CellId → Bool

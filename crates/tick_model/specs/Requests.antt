@@ -1,5 +1,6 @@
 -- What comes of each request, by what is seen of the cells that it asks for. Rules: docs/RULES.md, "Requests".
 use Rattle.std.specs.Prelude.{ℕ, ◌==◌, List, [], ◌∷◌, ◌++◌, Bool, true, false, ◌&&◌, ◌||◌, length, slice_set, if◌then◌else◌}
+use Rattle.std.specs.List.{list_any}
 use Rattle.base_ids.specs.Cells.{same_cell, same_player}
 use Rattle.base_ids.specs.declared.coord.Coord.{Coord}
 use Rattle.base_ids.specs.declared.player.Player.{Player}
@@ -40,11 +41,15 @@ names seen (Build at building) cell = same_cell (Planet at) cell
 names seen (Set at work tenths) cell = same_cell (Planet at) cell
 names seen _ cell = false
 
--- The cells that a request asks for, among those that are there: the caller's account, and the places that it names.
+-- a cell is in a directory
+abbrev pub is_listed : List CellId → CellId → Bool
+is_listed cells cell = list_any (same_cell cell) cells
+
+-- The cells that a request asks for, among those of the directory: the caller's account, and the places that it names.
 -- Who isn't a player asks for none.
-abbrev pub asked : (CellId → View) → Player → Request → CellId → Bool
-asked seen player req cell =
-    is_there (seen (Account player)).own && is_there (seen cell).own && (same_cell (Account player) cell || names seen req cell)
+abbrev pub asked : List CellId → (CellId → View) → Player → Request → CellId → Bool
+asked cells seen player req cell =
+    is_listed cells (Account player) && is_listed cells cell && (same_cell (Account player) cell || names seen req cell)
 
 -- what a request can go by: the rules, the directory, its own number and moment, and what is seen of the cells
 pub record Sight : Type 0 where

@@ -17,7 +17,7 @@ sight_of setting player req moment state =
       cells = setting.cells;
       number = state.number + 1;
       moment = moment;
-      seen = shown (asked seen player req) seen;
+      seen = shown (asked setting.cells seen player req) seen;
     }
 
 -- the state after a request, and the reply
@@ -30,6 +30,6 @@ unfoldable pub step : Setting → Player → Request → ℕ → State → Stepp
 step setting player req moment state =
     let came = outcome (sight_of setting player req moment state) player req in
     record {
-      state = record (write (asked (view setting.cells state) player req) came.change state) { number = state.number + 1 };
+      state = record (write (asked setting.cells (view setting.cells state) player req) came.change state) { number = state.number + 1 };
       reply = record { number = state.number + 1; moment = moment; code = came.answer.code; body = came.answer.body };
     }

@@ -1,0 +1,56 @@
+-- Which cells a request asks for.
+use Rattle.std.proofs.Common.{◌≡◌, List, Bool, true, false, cond, ◌&&◌, ◌||◌, Contains, refl, ap, ◌∙◌}
+use Rattle.std.proofs.Math.Path.{fun_ext}
+use Rattle.std.proofs.lemmas.Map.Views.{Contains-from_any}
+use Rattle.base_ids.specs.Cells.{same_cell}
+use Rattle.base_ids.specs.declared.player.Player.{Player}
+use Rattle.base_ids.specs.declared.cell_id.CellId.{CellId}
+use Rattle.base_ids.specs.declared.cell_id.CellId.TheVariants.{Account}
+use Rattle.request_text.specs.declared.request.Request.{Request}
+use Rattle.request_text.specs.declared.request.Request.TheVariants.{Planet as PlanetOf, Build, Set}
+use Rattle.tick_model.specs.Requests.{asked, is_listed, names}
+use Rattle.tick_model.specs.Universe.{of_planet, PlanetFields}
+use Rattle.tick_model.specs.Views.{View, nothing_seen, shown}
+use Rattle.tick_model.proofs.Lists.{and-is, cell-is}
+use Rattle.tick_model.proofs.Writes.{shown-alike}
+
+-- what the directory is found to have it has
+pub listed-in : (cells : List CellId) (cell : CellId) → is_listed cells cell ≡ true → Contains cells cell
+listed-in cells cell is = Contains-from_any cell-is cell cells is
+
+pub asked-in : (cells : List CellId) (seen : CellId → View) (player : Player) (req : Request) (cell : CellId) → asked cells seen player req cell ≡ true → Contains cells cell
+asked-in cells seen player req cell is =
+    let listed = and-is (is_listed cells (Account player) && is_listed cells cell) (same_cell (Account player) cell || names seen req cell) is in
+    listed-in cells cell (and-is (is_listed cells (Account player)) (is_listed cells cell) listed.0).1
+
+-- a request names the same places whatever is seen
+names-same : (v w : CellId → View) (req : Request) (cell : CellId) → names v req cell ≡ names w req cell
+names-same v w (PlanetOf at) cell = refl
+names-same v w (Build at building) cell = refl
+names-same v w (Set at work tenths) cell = refl
+names-same v w _ cell = refl
+
+-- so it asks for the same cells
+pub asked-same : (cells : List CellId) (v w : CellId → View) (player : Player) (req : Request) (cell : CellId) → asked cells v player req cell ≡ asked cells w player req cell
+asked-same cells v w player req cell =
+    ap (λ named. is_listed cells (Account player) && is_listed cells cell && (same_cell (Account player) cell || named)) (names-same v w req cell)
+
+-- equal cells are shown alike
+pub shown-same : (cells : List CellId) (v w : CellId → View) (player : Player) (req : Request) → ((cell : CellId) → asked cells v player req cell ≡ true → v cell ≡ w cell)
+    → shown (asked cells v player req) v ≡ shown (asked cells w player req) w
+shown-same cells v w player req agree =
+    let same = fun_ext (asked-same cells v w player req) in
+    shown-alike (asked cells v player req) v w agree ∙ ap (λ some. shown some w) same
+
+shown-planet_at : (b : Bool) (seen : View) (planet : PlanetFields) → (cond b seen nothing_seen).own ≡ of_planet planet → (b ≡ true) × (seen.own ≡ of_planet planet)
+shown-planet_at true seen planet is = (refl, is)
+shown-planet_at false seen planet is = absurd cc
+
+-- what is shown as a planet is asked for, and is that planet
+pub shown-planet : (some : CellId → Bool) (seen : CellId → View) (cell : CellId) (planet : PlanetFields) → (shown some seen cell).own ≡ of_planet planet
+    → (some cell ≡ true) × ((seen cell).own ≡ of_planet planet)
+shown-planet some seen cell planet is = shown-planet_at (some cell) (seen cell) planet is
+
+-- what is asked for is shown as it is
+pub shown-there : (some : CellId → Bool) (seen : CellId → View) (cell : CellId) → some cell ≡ true → shown some seen cell ≡ seen cell
+shown-there some seen cell is = ap (λ b. cond b (seen cell) nothing_seen) is
