@@ -2,6 +2,11 @@ pub mod Lists
 pub mod Writes
 pub mod Owns
 pub mod Gains
+pub mod Keys
+pub mod Queues
+pub mod Nexts
+pub mod Follows
+pub mod Effects
 pub mod Asked
 pub mod Outcomes
 pub mod Requeued
@@ -9,3 +14,8 @@ pub mod Written
 pub mod Arising
 pub mod RulesKept
 pub mod Requesting
+pub mod Worlds
+pub mod Talks
+pub mod Once
+pub mod Laws1
+pub mod GameLaws

@@ -103,6 +103,14 @@ inside list cells change state cell within has =
       units = units_of list (holdings i) cell;
     }
 
+shown_at : (b : Bool) (one other : View) → (b ≡ true → one ≡ other) → cond b one nothing_seen ≡ cond b other nothing_seen
+shown_at true one other same = same refl
+shown_at false one other same = refl
+
+-- if some cells look the same, the same of them is shown
+pub shown-alike : (cells : CellId → Bool) (one other : CellId → View) → ((x : CellId) → cells x ≡ true → one x ≡ other x) → shown cells one ≡ shown cells other
+shown-alike cells one other same = fun_ext (λ x. shown_at (cells x) (one x) (other x) (same x))
+
 -- What the three kinds of change leave of a state.
 
 -- one cell has something else of its own
@@ -157,7 +165,7 @@ write-buildings list cells cell own items state has =
     let left = filter (λ (item : Item). not (is_building_at cell item)) state.items in
     λ i. record { number = state.number; own = owns i; items = left ++ items; fleets = all-fleets state.fleets i }
 
-shown-own : (list : List CellId) (cells : CellId → Bool) (state : State) (cell : CellId) → cells cell ≡ true
+pub shown-own : (list : List CellId) (cells : CellId → Bool) (state : State) (cell : CellId) → cells cell ≡ true
     → (shown cells (view list state) cell).own ≡ state.own cell
 shown-own list cells state cell has = ap (λ b. (cond b (view list state cell) nothing_seen).own) has
 

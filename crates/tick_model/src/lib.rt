@@ -3,6 +3,7 @@
 
 mod codes;
 mod debris;
+mod laws;
 mod rules;
 
 pub use codes::{
@@ -10,4 +11,5 @@ pub use codes::{
     QUEUE_FULL, REQUIRES,
 };
 pub use debris::Debris;
+pub use laws::answer_once;
 pub use rules::Rules;
