@@ -3,7 +3,9 @@
 
 mod building_item;
 mod growing;
+mod paying;
 mod planet;
+mod queueing;
 mod reading;
 
 pub use building_item::{BuildingItem, Placed};
