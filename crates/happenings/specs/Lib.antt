@@ -1,3 +1,4 @@
 pub mod Orders
 pub mod Held
 pub mod Due
+pub mod Applying

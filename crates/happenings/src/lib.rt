@@ -1,8 +1,10 @@
 //! Cells that are held, and the events that come due among them.
 #![tactic(auto)]
 
+mod applying;
 mod due;
 mod held;
 
+pub use applying::apply;
 pub use due::Due;
 pub use held::{AccountCell, Held, PlanetCell};
