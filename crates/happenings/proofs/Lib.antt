@@ -2,3 +2,5 @@ pub mod Keys
 pub mod Firsts
 pub mod Putting
 pub mod Copying
+pub mod Standing
+pub mod Acting
