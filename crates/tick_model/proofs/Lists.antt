@@ -24,7 +24,7 @@ pub fails : (b : Bool) → (b ≡ true → ⊥) → b ≡ false
 fails true never_true = absurd (never_true refl)
 fails false never_true = refl
 
-same_number : (n : ℕ) → eqb n n ≡ true
+pub same_number : (n : ℕ) → eqb n n ≡ true
 same_number n = grind (arith, nat_tests)
 
 number-is : (m n : ℕ) → eqb m n ≡ true → m ≡ n

@@ -157,7 +157,7 @@ write-buildings list cells cell own items state has =
     let left = filter (λ (item : Item). not (is_building_at cell item)) state.items in
     λ i. record { number = state.number; own = owns i; items = left ++ items; fleets = all-fleets state.fleets i }
 
-shown-own : (list : List CellId) (cells : CellId → Bool) (state : State) (cell : CellId) → cells cell ≡ true
+pub shown-own : (list : List CellId) (cells : CellId → Bool) (state : State) (cell : CellId) → cells cell ≡ true
     → (shown cells (view list state) cell).own ≡ state.own cell
 shown-own list cells state cell has = ap (λ b. (cond b (view list state cell) nothing_seen).own) has
 
