@@ -19,3 +19,4 @@ pub mod GameLaws
 pub mod Worlds
 pub mod Talks
 pub mod Once
+pub mod Keeping
