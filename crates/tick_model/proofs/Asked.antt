@@ -12,6 +12,7 @@ use Rattle.tick_model.specs.Requests.{asked, is_listed, names}
 use Rattle.tick_model.specs.Universe.{of_planet, PlanetFields}
 use Rattle.tick_model.specs.Views.{View, nothing_seen, shown}
 use Rattle.tick_model.proofs.Lists.{and-is, cell-is}
+use Rattle.tick_model.proofs.Writes.{shown-alike}
 
 -- what the directory is found to have it has
 pub listed-in : (cells : List CellId) (cell : CellId) → is_listed cells cell ≡ true → Contains cells cell
@@ -34,15 +35,12 @@ pub asked-same : (cells : List CellId) (v w : CellId → View) (player : Player)
 asked-same cells v w player req cell =
     ap (λ named. is_listed cells (Account player) && is_listed cells cell && (same_cell (Account player) cell || named)) (names-same v w req cell)
 
-shown_at : (b : Bool) (v w : View) → (b ≡ true → v ≡ w) → cond b v nothing_seen ≡ cond b w nothing_seen
-shown_at true v w agree = agree refl
-shown_at false v w agree = refl
-
 -- equal cells are shown alike
 pub shown-same : (cells : List CellId) (v w : CellId → View) (player : Player) (req : Request) → ((cell : CellId) → asked cells v player req cell ≡ true → v cell ≡ w cell)
     → shown (asked cells v player req) v ≡ shown (asked cells w player req) w
 shown-same cells v w player req agree =
-    fun_ext (λ cell. shown_at (asked cells v player req cell) (v cell) (w cell) (agree cell) ∙ ap (λ b. cond b (w cell) nothing_seen) (asked-same cells v w player req cell))
+    let same = fun_ext (asked-same cells v w player req) in
+    shown-alike (asked cells v player req) v w agree ∙ ap (λ some. shown some w) same
 
 shown-planet_at : (b : Bool) (seen : View) (planet : PlanetFields) → (cond b seen nothing_seen).own ≡ of_planet planet → (b ≡ true) × (seen.own ≡ of_planet planet)
 shown-planet_at true seen planet is = (refl, is)

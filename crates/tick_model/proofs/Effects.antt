@@ -1,25 +1,22 @@
 -- What it does to a state that a building is done.
 use Rattle.std.proofs.Common.{◌≡◌, ℕ, ◌+◌, ◌<◌, ◌≤◌, inl, inr, Bool, true, false, not, cond, ◌&&◌, List, ◌∷◌, ◌++◌, length, Contains, filter, arith, refl, ap, ◌∙◌, sym, subst}
-use Rattle.std.proofs.Math.Path.{fun_ext}
 use Rattle.std.proofs.lemmas.List.{length-append}
 use Rattle.std.proofs.lemmas.List.Filters.{length-filter_both}
 use Rattle.base_ids.specs.Cells.{same_cell}
 use Rattle.base_ids.specs.declared.cell_id.CellId.{CellId}
-use Rattle.request_text.specs.declared.entry.Entry.{Entry}
 use Rattle.laziness.proofs.Bringing.{test, never}
 use Rattle.tick_model.specs.Buildings.{Built, done}
 use Rattle.tick_model.specs.Events.{Event, built, Owes, effect, event_change, footprint, home, second_of}
 use Rattle.tick_model.specs.Game.{brings}
-use Rattle.tick_model.specs.Requests.{asked, is_there}
+use Rattle.tick_model.specs.Requests.{is_there}
 use Rattle.tick_model.specs.Rules.{AreDistinct, IsIn, KeepsRules, same_order}
 use Rattle.tick_model.specs.Universe.{Buildings, Item, Setting, State, same_class}
-use Rattle.tick_model.specs.Views.{View, holding, nothing_seen, shown, view}
-use Rattle.tick_model.proofs.Lists.{cell-is, cell-itself, distinct-append, distinct-filter, distinct-one, fails, from-filter, in-append}
+use Rattle.tick_model.specs.Views.{holding, shown, view}
+use Rattle.tick_model.proofs.Lists.{cell-is, cell-itself, distinct-append, distinct-filter, distinct-one, fails, from-filter, in-append, not-true}
 use Rattle.tick_model.proofs.Follows.{Follows, IsOrderOf, builds, follows-distinct, follows-in, follows-length, same-order}
-use Rattle.tick_model.proofs.Asked.{asked-same}
 use Rattle.tick_model.proofs.Owns.{brings-same, owned-kept}
 use Rattle.tick_model.proofs.Queues.{buildings-after, buildings-at, queued, standing}
-use Rattle.tick_model.proofs.Writes.{IsWithin, held, inside, is_building_at, outside, seen_after, shown-own, with_buildings, within-buildings, write-buildings}
+use Rattle.tick_model.proofs.Writes.{IsWithin, held, inside, is_building_at, outside, seen_after, shown-alike, shown-own, with_buildings, within-buildings, write-buildings}
 
 -- what comes of the cell that owes it
 abbrev pub came : Setting → Item → List Item → State → Built
@@ -74,23 +71,15 @@ event-inside setting state event x stands has =
     let change = event_change setting.rules event (shown (footprint event) (view setting.cells state)) in
     inside setting.cells (footprint event) change state x (event-within setting state event stands) has
 
-shown-at : (b : Bool) (one other : View) → (b ≡ true → one ≡ other) → cond b one nothing_seen ≡ cond b other nothing_seen
-shown-at true one other same = same refl
-shown-at false one other same = refl
-
--- if some cells look the same, the same of them is shown
-pub shown-same : (cells : CellId → Bool) (one other : CellId → View) → ((x : CellId) → cells x ≡ true → one x ≡ other x) → shown cells one ≡ shown cells other
-shown-same cells one other same = fun_ext (λ x. shown-at (cells x) (one x) (other x) (same x))
-
 pub event-depends : (setting : Setting) (one other : State) (event : Event) → Owes (view setting.cells one (home event)) event
     → Owes (view setting.cells other (home event)) event
     → ((x : CellId) → footprint event x ≡ true → view setting.cells one x ≡ view setting.cells other x)
     → (x : CellId) → footprint event x ≡ true → view setting.cells (effect setting event one) x ≡ view setting.cells (effect setting event other) x
 event-depends setting one other event stands stands' agree x has =
     let cells = footprint event in
-    let shown_alike = shown-same cells (view setting.cells one) (view setting.cells other) agree in
+    let same = shown-alike cells (view setting.cells one) (view setting.cells other) agree in
     event-inside setting one event x stands has
-    ∙ (λ i. seen_after (event_change setting.rules event (shown_alike i)) x (agree x has i))
+    ∙ (λ i. seen_after (event_change setting.rules event (same i)) x (agree x has i))
     ∙ sym (event-inside setting other event x stands' has)
 
 -- no planet changes its owner or how many units it has
@@ -109,13 +98,13 @@ after-there setting item later state x =
       | inr other ↦ ap tested other
     ]
 
+-- and no cell comes or goes
+pub event-there : (setting : Setting) (state : State) (event : Event) (x : CellId) → is_there ((effect setting event state).own x) ≡ is_there (state.own x)
+event-there setting state (built item later) x = ap (λ new. is_there (new.own x)) (effect-is setting item later state) ∙ after-there setting item later state x
+
 pub event-brings : (setting : Setting) (state : State) (event : Event) (t : ℕ) (x y : CellId) → Owes (view setting.cells state (home event)) event
     → brings (view setting.cells (effect setting event state) x) t y ≡ brings (view setting.cells state x) t y
 event-brings setting state event t x y stands = brings-same ((effect setting event state).own x) (state.own x) (event-holding setting state event x stands) y
-
-pub event-asked : (setting : Setting) (state : State) (event : Event) (entry : Entry) (y : CellId)
-    → asked setting.cells (view setting.cells (effect setting event state)) entry.player entry.req y ≡ asked setting.cells (view setting.cells state) entry.player entry.req y
-event-asked setting state event entry y = asked-same setting.cells (view setting.cells (effect setting event state)) (view setting.cells state) entry.player entry.req y
 
 -- the new queue is what its cell shows
 after-queue : (setting : Setting) (state : State) (item : Item) (later : List Item) → Owes (view setting.cells state item.cell) (built item later)
@@ -161,20 +150,27 @@ after-in setting state item later stands x has =
           (found.0, (queued setting.cells state item later stands found.0 (inr found.1)).within, found.2)
     ]
 
+-- an item of another queue is of another class or has another number than the items of the new queue
+after-apart : (setting : Setting) (state : State) (item : Item) (later queue : List Item) → Owes (view setting.cells state item.cell) (built item later)
+    → AreDistinct state.items → Follows later queue → (a b : Item) → IsIn a state.items → is_building_at item.cell a ≡ false → IsIn b queue → same_order a b ≡ false
+after-apart setting state item later queue stands distinct follows a b has_a other has_b =
+    let found = follows-in later queue follows b has_b in
+    let old = queued setting.cells state item later stands found.0 (inr found.1) in
+    fails (same_order a b) (λ same.
+    let one = distinct-one state.items a found.0 distinct has_a old.within (sym (same-order found.0 b found.2 a) ∙ same) in
+    never (is_building_at item.cell a) (ap (is_building_at item.cell) one ∙ old.there) other)
+
 after-distinct : (setting : Setting) (state : State) (item : Item) (later : List Item) → Owes (view setting.cells state item.cell) (built item later)
     → AreDistinct state.items → AreDistinct (after setting item later state).items
 after-distinct setting state item later stands distinct =
-    let came = came setting item later state in
+    let queue = (came setting item later state).queue in
     let kept = λ (y : Item). not (is_building_at item.cell y) in
     let follows = (builds setting.rules.speed item later (state.own item.cell)).follows in
     let waiting = subst AreDistinct (standing setting.cells state item later stands) (distinct-filter (is_building_at item.cell) state.items distinct) in
-    distinct-append (filter kept state.items) came.queue (distinct-filter kept state.items distinct) (follows-distinct later came.queue follows waiting.1) (λ a b other new.
-    let found = follows-in later came.queue follows b new in
-    let old = queued setting.cells state item later stands found.0 (inr found.1) in
-    let first = from-filter kept a state.items other in
-    fails (same_order a b) (λ same.
-    let one = distinct-one state.items a found.0 distinct first.0 old.within (sym (same-order found.0 b found.2 a) ∙ same) in
-    never (kept a) first.1 (ap (λ y. not (is_building_at item.cell y)) one ∙ ap not old.there)))
+    let apart : (a b : Item) → IsIn a (filter kept state.items) → IsIn b queue → same_order a b ≡ false = λ a b has_a has_b.
+    let first = from-filter kept a state.items has_a in
+    after-apart setting state item later queue stands distinct follows a b first.0 (not-true (is_building_at item.cell a) first.1) has_b in
+    distinct-append (filter kept state.items) queue (distinct-filter kept state.items distinct) (follows-distinct later queue follows waiting.1) apart
 
 after-keeps : (setting : Setting) (state : State) (item : Item) (later : List Item) → Owes (view setting.cells state item.cell) (built item later) → KeepsRules setting state
     → KeepsRules setting (after setting item later state)

@@ -13,7 +13,8 @@ use Rattle.tick_model.specs.Requests.{asked}
 use Rattle.tick_model.specs.Rules.{KeepsRules}
 use Rattle.tick_model.specs.Universe.{Setting, State}
 use Rattle.tick_model.specs.Views.{View, view}
-use Rattle.tick_model.proofs.Effects.{event-asked, event-brings, event-depends, event-falls, event-keeps, event-later, event-outside}
+use Rattle.tick_model.proofs.Asked.{asked-same}
+use Rattle.tick_model.proofs.Effects.{event-brings, event-depends, event-falls, event-keeps, event-later, event-outside}
 use Rattle.tick_model.proofs.Gains.{advance-asked, advance-keeps, gains-bring, gains-owe, gains-owed, more-gained, none-gained, view-advanced}
 use Rattle.tick_model.proofs.Keys.{key-later, key-sooner}
 use Rattle.tick_model.proofs.Lists.{cell-is, cell-itself, fails}
@@ -100,7 +101,8 @@ widens setting u e t x y fine stands has brought = inl (sym (event-brings settin
 pub asks_after : (setting : Setting) (u : State) (e : Event) (a : Entry) (y : CellId) → KeepsRules setting u → Stands (game setting) u e
     → asked setting.cells (view setting.cells (effect setting e u)) a.player a.req y ≡ true
     → (asked setting.cells (view setting.cells u) a.player a.req y ≡ true) ⊎ (footprint e y ≡ true)
-asks_after setting u e a y fine stands asks = inl (sym (event-asked setting u e a y) ∙ asks)
+asks_after setting u e a y fine stands asks =
+    inl (asked-same setting.cells (view setting.cells u) (view setting.cells (effect setting e u)) a.player a.req y ∙ asks)
 
 pub effect_count : (setting : Setting) (u : State) (e : Event) → (effect setting e u).number ≡ u.number
 effect_count setting u e = refl

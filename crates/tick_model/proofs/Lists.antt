@@ -1,5 +1,5 @@
 -- Lists of items and fleets: what is among them, what filters leave of them, and items that are distinct.
-use Rattle.std.proofs.Common.{◌≡◌, ℕ, ◌⊎◌, inl, inr, Bool, true, false, cond, eqb, ◌&&◌, ◌||◌, List, [], ◌∷◌, ◌++◌, Option, None, Some, filter, arith, refl, ap, ◌∙◌, sym, subst}
+use Rattle.std.proofs.Common.{◌≡◌, ℕ, ◌⊎◌, inl, inr, Bool, true, false, not, cond, eqb, ◌&&◌, ◌||◌, List, [], ◌∷◌, ◌++◌, Option, None, Some, filter, arith, refl, ap, ◌∙◌, sym, subst}
 use Rattle.std.specs.List.{list_any, filter_map, cons_option}
 use Rattle.std.proofs.lemmas.Bool.Decides.{nat_tests}
 use Rattle.base_ids.specs.Cells.{same_cell}
@@ -23,6 +23,10 @@ and-from a b first second = rw first second
 pub fails : (b : Bool) → (b ≡ true → ⊥) → b ≡ false
 fails true never_true = absurd (never_true refl)
 fails false never_true = refl
+
+pub not-true : (b : Bool) → not b ≡ true → b ≡ false
+not-true true is = absurd cc
+not-true false is = refl
 
 pub same_number : (n : ℕ) → eqb n n ≡ true
 same_number n = grind (arith, nat_tests)

@@ -5,12 +5,11 @@ use Rattle.base_ids.specs.Cells.{same_cell}
 use Rattle.base_ids.specs.Order.{key_before}
 use Rattle.base_ids.specs.declared.cell_id.CellId.{CellId}
 use Rattle.base_ids.proofs.Ordering.{events_ordered}
-use Rattle.laziness.proofs.Bringing.{never}
 use Rattle.tick_model.specs.Events.{Event, built, Owes, home, key_of}
 use Rattle.tick_model.specs.Rules.{IsIn, KeepsRules}
 use Rattle.tick_model.specs.Universe.{Buildings, Item, Own, Setting, State, same_class}
 use Rattle.tick_model.specs.Views.{queue, stands_in, view}
-use Rattle.tick_model.proofs.Lists.{and-from, and-is, cell-is, cell-turned, class-from, class-is, class-turned, distinct-one, fails, filter-all, filter-alike, filter-both, filter-none, from-filter, same_number}
+use Rattle.tick_model.proofs.Lists.{and-from, and-is, cell-is, cell-turned, class-from, class-is, class-turned, distinct-one, filter-all, filter-alike, filter-both, filter-none, from-filter, not-true, same_number}
 use Rattle.tick_model.proofs.Writes.{is_building_at, with_buildings}
 
 -- the building queue of a cell, by one test
@@ -57,8 +56,8 @@ pub buildings-after : (cell : CellId) (own : Own) (items : List Item) (state : S
     → filter (is_building_at cell) (with_buildings cell own items state).items ≡ items
 buildings-after cell own items state there =
     let others = filter (λ (item : Item). not (is_building_at cell item)) state.items in
-    let none = filter-none (is_building_at cell) others (λ item is. fails (is_building_at cell item) (λ here.
-    never (not (is_building_at cell item)) (from-filter (λ x. not (is_building_at cell x)) item state.items is).1 (ap not here))) in
+    let none = filter-none (is_building_at cell) others (
+    λ item is. not-true (is_building_at cell item) (from-filter (λ x. not (is_building_at cell x)) item state.items is).1) in
     filter-append (is_building_at cell) others items ∙ (λ i. none i ++ filter-all (is_building_at cell) items there i)
 
 tails : (a b : Item) (as_a as_b : List Item) → a ∷ as_a ≡ b ∷ as_b → as_a ≡ as_b

@@ -103,6 +103,14 @@ inside list cells change state cell within has =
       units = units_of list (holdings i) cell;
     }
 
+shown_at : (b : Bool) (one other : View) → (b ≡ true → one ≡ other) → cond b one nothing_seen ≡ cond b other nothing_seen
+shown_at true one other same = same refl
+shown_at false one other same = refl
+
+-- if some cells look the same, the same of them is shown
+pub shown-alike : (cells : CellId → Bool) (one other : CellId → View) → ((x : CellId) → cells x ≡ true → one x ≡ other x) → shown cells one ≡ shown cells other
+shown-alike cells one other same = fun_ext (λ x. shown_at (cells x) (one x) (other x) (same x))
+
 -- What the three kinds of change leave of a state.
 
 -- one cell has something else of its own

@@ -1,0 +1,4 @@
+pub mod Keys
+pub mod Firsts
+pub mod Putting
+pub mod Copying

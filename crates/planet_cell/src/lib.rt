@@ -1,0 +1,13 @@
+//! One planet: what it is at a moment, how it comes to a later one, and how its buildings are ordered and done.
+#![tactic(auto)]
+
+mod building_item;
+mod growing;
+mod paying;
+mod planet;
+mod queueing;
+mod reading;
+
+pub use building_item::{BuildingItem, Placed};
+pub use growing::seconds_add_up;
+pub use planet::Planet;

@@ -1,0 +1,75 @@
+use crate::building_item::BuildingItem;
+use crate::paying::{can_pay, paid};
+use crate::planet::Planet;
+use crate::reading::place_of;
+
+impl Planet {
+    ghost use Rattle.std.specs.Prelude.{◌≡◌, ◌<◌, ◌≤◌, slice_get};
+    ghost use Rattle.catalog.specs.Levels.{level_cap_of};
+    ghost use Rattle.catalog.specs.declared.settings.TheConstants.{TOP_SPEED};
+    ghost use Rattle.planet_cell.specs.Planet.{fields_of, item_of, items_of};
+    ghost use Rattle.planet_cell.specs.Queue.{Runs, built_of, finished, works_of};
+    ghost use Rattle.ports.specs.declared.clock.TheConstants.{LATEST};
+    ghost use Rattle.tick_model.specs.Buildings.{started, starts_first};
+    ghost use Rattle.tick_model.specs.Production.{level_of};
+
+    /// The building that runs is done: its level rises. Then the first of the items that wait is paid and starts, if it can be
+    /// paid; those before it are dropped.
+    ///
+    /// The speed is 1 to `catalog::TOP_SPEED`.
+    pub fn finish_building(&mut self, speed: u32)
+        requires queue { Runs self.old.buildings.items }
+        requires speed_from { 1 ≤ speed }
+        requires speed_to { speed ≤ TOP_SPEED }
+        ensures built { built_of self.new ≡ finished speed (fields_of self.old) (items_of self.old) }
+        ensures at { self.new.at ≡ self.old.at }
+    {
+        let done = self.buildings.remove(0);
+        self.levels[place_of(done.kind)] += 1;
+        self.start_waiting(done.second, speed);
+    }
+
+    /// The first of the items, which all wait, is paid and starts at a second, if it can be paid. Those before it are dropped.
+    #[tactic(auto, using(crate::proofs::Queues::first_below))]
+    fn start_waiting(&mut self, second: u64, speed: u32)
+        requires second { second ≤ LATEST }
+        requires speed_from { 1 ≤ speed }
+        requires speed_to { speed ≤ TOP_SPEED }
+        ensures works { works_of self.new ≡ starts_first speed second (fields_of self.old) (items_of self.old) }
+        ensures at { self.new.at ≡ self.old.at }
+    {
+        'waiting: while let Some(item) = self.first_building() {
+            let price = self.next_price(item.kind);
+            if can_pay(self.stock, price) {
+                let running = self.started(item, second, speed);
+                self.stock = paid(self.stock, price);
+                self.buildings[0] = running;
+                return;
+            }
+            self.buildings.remove(0);
+        }
+    }
+
+    /// The first item of the queue.
+    fn first_building(&self) -> Option<BuildingItem>
+        ensures { result ≡ slice_get self.now.buildings.items 0 }
+    {
+        self.buildings.first().copied()
+    }
+
+    /// An item that starts to run at a second.
+    fn started(&self, item: BuildingItem, second: u64, speed: u32) -> BuildingItem
+        requires second { second ≤ LATEST }
+        requires level { level_of (fields_of self.now) item.kind.kind < level_cap_of item.kind.kind }
+        requires speed_from { 1 ≤ speed }
+        requires speed_to { speed ≤ TOP_SPEED }
+        ensures { item_of self.now.at result ≡ started speed second (fields_of self.now) (item_of self.now.at item) }
+    {
+        BuildingItem {
+            number: item.number,
+            kind: item.kind,
+            level: self.level(item.kind) + 1,
+            second: second + self.next_seconds(item.kind, speed),
+        }
+    }
+}
