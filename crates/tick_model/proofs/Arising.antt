@@ -45,7 +45,7 @@ arises-made S t u v none (ordered cell own new can is_new is) (built item later)
       | inl here ↦
           (let place = cell-is cell item.cell here in
           let all : items ≡ item ∷ later =
-          sym (queue-new cell u.items items (λ x is. standing u t cell new x is_new is)) ∙ ap (λ c. queue_at c (with_buildings cell own items u).items) place ∙ now in
+          sym (queue-new cell own items u (λ x is. standing u t cell new x is_new is)) ∙ ap (λ c. queue_at c (with_buildings cell own items u).items) place ∙ now in
           inr (arises-own S t u cell new item (queue_at cell u.items) later none is_new place inside refl all))
-      | inr apart ↦ inl (sym (queue-other cell item.cell u.items items apart (λ x is. standing u t cell new x is_new is)) ∙ now)
+      | inr apart ↦ inl (sym (queue-other cell item.cell own items u apart (λ x is. standing u t cell new x is_new is)) ∙ now)
     ]

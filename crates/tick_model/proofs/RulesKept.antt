@@ -4,13 +4,13 @@ use Rattle.std.proofs.lemmas.Bool.Decides.{nat_tests}
 use Rattle.base_ids.specs.Cells.{same_cell}
 use Rattle.base_ids.specs.declared.cell_id.CellId.{CellId}
 use Rattle.base_ids.specs.declared.cell_id.CellId.TheVariants.{Account}
-use Rattle.laziness.proofs.Bringing.{test}
+use Rattle.laziness.proofs.Bringing.{never, test}
 use Rattle.tick_model.specs.Requests.{is_there}
 use Rattle.tick_model.specs.Rules.{AreDistinct, IsIn, KeepsRules, same_order}
 use Rattle.tick_model.specs.Universe.{Own, of_planet, PlanetFields, Item, same_class, Setting, State}
 use Rattle.tick_model.proofs.Lists.{cell-is, distinct-append, distinct-filter, distinct-one, fails, from-filter, in-append}
 use Rattle.tick_model.proofs.Owns.{owned-kept}
-use Rattle.tick_model.proofs.Requeued.{in-queue, not-both, queue_at}
+use Rattle.tick_model.proofs.Requeued.{in-queue, queue_at}
 use Rattle.tick_model.proofs.Writes.{is_building_at, with_own}
 use Rattle.tick_model.proofs.Written.{CanHave, IsNew, Makes, stays, changed, ordered}
 
@@ -57,13 +57,13 @@ with-new setting u t cell new fine is_new =
     let own = queue_at cell u.items in
     let one : (a b : Item) → IsIn a u.items → IsIn b (new ∷ []) → same_order a b ≡ false =
     λ a b has is. elim is [ inl same ↦ ap (same_order a) same ∙ not-new u t cell a new (fine.drawn a has) is_new | inr none ↦ absurd none ] in
-    let queue = distinct-append own (new ∷ []) (distinct-filter _ _ (distinct-filter _ u.items fine.distinct)) (refl, tt) (λ a b has is. one a b (in-queue cell a u.items has).0 is) in
+    let queue = distinct-append own (new ∷ []) (distinct-filter _ _ (distinct-filter _ u.items fine.distinct)) (refl, tt) (λ a b has is. one a b (in-queue cell a u.items has).within is) in
     distinct-append (filter other u.items) (own ++ new ∷ []) (distinct-filter other u.items fine.distinct) queue (λ a b has is.
     let old = from-filter other a u.items has in
     elim (in-append b own (new ∷ []) is) [
       | inl before ↦
           (let mine = in-queue cell b u.items before in
-          fails (same_order a b) (λ same. not-both (is_building_at cell a) (ap (is_building_at cell) (distinct-one u.items a b fine.distinct old.0 mine.0 same) ∙ mine.1) old.1))
+          fails (same_order a b) (λ same. never (other a) old.1 (ap other (distinct-one u.items a b fine.distinct old.0 mine.within same) ∙ ap not mine.there)))
       | inr last ↦ one a b old.0 last
     ])
 
@@ -73,7 +73,7 @@ of-old u cell new item is =
     elim (in-append item (filter (λ item. not (is_building_at cell item)) u.items) (queue_at cell u.items ++ new ∷ []) is) [
       | inl other ↦ inl (from-filter (λ item. not (is_building_at cell item)) item u.items other).0
       | inr rest ↦ elim (in-append item (queue_at cell u.items) (new ∷ []) rest) [
-        | inl before ↦ inl (in-queue cell item u.items before).0
+        | inl before ↦ inl (in-queue cell item u.items before).within
         | inr last ↦ elim last [ inl same ↦ inr same | inr none ↦ absurd none ]
       ]
     ]

@@ -65,7 +65,7 @@ new-there setting a t u at item asks new =
 pub standing : (u : State) (t : ℕ) (cell : CellId) (new item : Item) → IsNew u t cell new → IsIn item (queue_at cell u.items ++ new ∷ []) → is_building_at cell item ≡ true
 standing u t cell new item is_new is =
     elim (in-append item (queue_at cell u.items) (new ∷ []) is) [
-      | inl before ↦ (in-queue cell item u.items before).1
+      | inl before ↦ (in-queue cell item u.items before).there
       | inr one ↦ elim one [ inl same ↦ subst (λ x. is_building_at cell x ≡ true) (sym same) (and-from (same_cell cell new.cell) (same_class Buildings new.class) (cell-from cell new.cell (sym is_new.cell_is)) (class-from Buildings new.class (sym is_new.class))) | inr none ↦ absurd none ]
     ]
 

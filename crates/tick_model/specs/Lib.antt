@@ -15,3 +15,4 @@ pub mod History
 pub mod Standing
 pub mod Talk
 pub mod Dump
+pub mod Keeping

@@ -46,7 +46,7 @@ abbrev pub is_listed : List CellId → CellId → Bool
 is_listed cells cell = list_any (same_cell cell) cells
 
 -- The cells that a request asks for, among those of the directory: the caller's account, and the places that it names.
--- Who isn't a player asks for none.
+-- A caller whose account isn't in it asks for none.
 abbrev pub asked : List CellId → (CellId → View) → Player → Request → CellId → Bool
 asked cells seen player req cell =
     is_listed cells (Account player) && is_listed cells cell && (same_cell (Account player) cell || names seen req cell)

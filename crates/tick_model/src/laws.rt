@@ -1,8 +1,13 @@
-ghost use Rattle.std.specs.Prelude.{◌≡◌, ℕ, List, [], Bool};
+ghost use Rattle.std.specs.Prelude.{◌≡◌, ℕ, ◌≤◌, List, [], ◌∷◌, ◌++◌, Bool};
+ghost use Rattle.laziness.specs.Laws.{ModelLaws};
 ghost use Rattle.request_text.specs.declared.entry.Entry.{Entry};
-ghost use Rattle.tick_model.specs.History.{IsLegal};
+ghost use Rattle.tick_model.specs.Game.{game};
+ghost use Rattle.tick_model.specs.History.{IsLegal, MayFollow};
+ghost use Rattle.tick_model.specs.Keeping.{AnswersEntry, IsFounded, KeepsHistory};
+ghost use Rattle.tick_model.specs.Standing.{Stands, last_moment, last_number};
 ghost use Rattle.tick_model.specs.Talk.{Talk};
-ghost use Rattle.tick_model.specs.Universe.{Universe};
+ghost use Rattle.tick_model.specs.Universe.{Setting, Universe};
+ghost use Rattle.tick_model.specs.World.{reply, world};
 
 /// For the readings that the clock told, and for the lines whose requests found no memory, a script has one history from a base,
 /// and one text of answers. It does nothing: the law is its contract.
@@ -11,4 +16,36 @@ pub fn answer_once()
         → IsLegal base history → IsLegal base other
         → Talk base [] history script lacking readings bytes → Talk base [] other script lacking readings others
         → (history ≡ other) × (bytes ≡ others) }
+{}
+
+/// The game meets the laws by which its cells can stand at seconds of their own, whatever its rules and its directory are.
+pub fn game_is_lawful()
+    ensures { (setting : Setting) → ModelLaws (game setting) }
+{}
+
+/// After every legal history the universe whose cells stand at seconds of their own has each cell as the universe that ticks had
+/// it at that second, the cell's last touch.
+pub fn histories_are_kept()
+    ensures { (base : Universe) (history : List Entry) → IsFounded base → IsLegal base history → KeepsHistory base history }
+{}
+
+/// An entry that may follow has the reply that it has in the universe that ticks, though only the cells that it touches are
+/// brought to its moment; and it leaves all other cells as they are.
+pub fn entries_are_answered()
+    ensures { (base : Universe) (history : List Entry) (entry : Entry) → IsFounded base → IsLegal base history
+        → MayFollow (last_number base.state.number history) (last_moment base.moment history) entry → AnswersEntry base history entry }
+{}
+
+/// The universe that ticks stands for its history at the moment of the last entry, and from then on histories can start anew from
+/// it.
+pub fn worlds_are_founded()
+    ensures stands { (base : Universe) (history : List Entry) → IsLegal base history → Stands base history (world base history (last_moment base.moment history)) }
+    ensures founded { (base : Universe) (history : List Entry) (moment : ℕ) → IsFounded base → IsLegal base history
+        → last_moment base.moment history ≤ moment → IsFounded (world base history moment) }
+{}
+
+/// A reply bears the number and the moment of its entry.
+pub fn replies_are_numbered()
+    ensures { (base : Universe) (history : List Entry) (entry : Entry) → IsLegal base (history ++ entry ∷ [])
+        → ((reply base history entry).number ≡ entry.number) × ((reply base history entry).moment ≡ entry.moment) }
 {}

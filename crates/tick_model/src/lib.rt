@@ -11,5 +11,8 @@ pub use codes::{
     QUEUE_FULL, REQUIRES,
 };
 pub use debris::Debris;
-pub use laws::answer_once;
+pub use laws::{
+    answer_once, entries_are_answered, game_is_lawful, histories_are_kept, replies_are_numbered,
+    worlds_are_founded,
+};
 pub use rules::Rules;
