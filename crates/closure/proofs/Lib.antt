@@ -1,0 +1,4 @@
+pub mod Sameness
+pub mod Unions
+pub mod Fewer
+pub mod Walked
