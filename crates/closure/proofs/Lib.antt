@@ -2,3 +2,5 @@ pub mod Sameness
 pub mod Unions
 pub mod Fewer
 pub mod Walked
+pub mod Comparing
+pub mod Searching
