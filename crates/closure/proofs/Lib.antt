@@ -4,3 +4,4 @@ pub mod Fewer
 pub mod Walked
 pub mod Comparing
 pub mod Searching
+pub mod Naming
