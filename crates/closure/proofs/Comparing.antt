@@ -10,7 +10,7 @@ use Rattle.base_ids.specs.Order.{coord_before, player_before}
 use Rattle.base_ids.specs.declared.coord.Coord.{Coord}
 use Rattle.base_ids.specs.declared.player.Player.{Player}
 use Rattle.base_ids.proofs.Ordering.{coords_ordered, players_ordered}
-use Rattle.closure.proofs.Sameness.{same_coord-is, same_player-is}
+use Rattle.closure.proofs.Sameness.{same_coord_is, same_player_is}
 use Rattle.closure.proofs.Searching.{Follows}
 
 same_number : (a b : ℕ) → is_eq (nat_cmp a b) ≡ eqb b a
@@ -37,7 +37,7 @@ players_follow = record {
   order = players_ordered;
   lower = λ a b. lower_number a.k b.k;
   tied = λ a b. same_number a.k b.k;
-  one = λ a b same. sym (same_player-is b a same);
+  one = λ a b same. sym (same_player_is b a same);
 }
 
 abbrev pub coord_cmp : Coord → Coord → Ordering
@@ -60,5 +60,5 @@ coords_follow = record {
   order = coords_ordered;
   lower = lower_place;
   tied = same_place;
-  one = λ a b same. sym (same_coord-is b a same);
+  one = λ a b same. sym (same_coord_is b a same);
 }

@@ -6,7 +6,7 @@ use Rattle.std.proofs.lemmas.List.Folds.{list_any_none}
 use Rattle.base_ids.specs.Cells.{same_cell}
 use Rattle.base_ids.specs.declared.cell_id.CellId.{CellId}
 use Rattle.closure.specs.Lists.{AreDistinct, IsUnion, has}
-use Rattle.closure.proofs.Sameness.{same_cell-is, same_cell-itself, same_cell-swap}
+use Rattle.closure.proofs.Sameness.{same_cell_is, same_cell_itself, same_cell_swap}
 use Rattle.closure.proofs.Unions.{has-append}
 
 -- how many of the names aren't among the cells
@@ -27,8 +27,8 @@ left_here : (cells : List CellId) (id name : CellId) → same_cell id name ≡ t
     → (if has (cells ++ id ∷ []) name then 0 else 1) < (if has cells name then 0 else 1)
 left_here cells id name same out =
     let split = has-append cells (id ∷ []) name in
-    let is = ap (has cells) (same_cell-is id name same) in
-    let swap = same_cell-swap name id in
+    let is = ap (has cells) (same_cell_is id name same) in
+    let swap = same_cell_swap name id in
     grind arith
 
 pub left_falls : (names cells : List CellId) (id : CellId) → has names id ≡ true → has cells id ≡ false → left names (cells ++ id ∷ []) < left names cells
@@ -51,5 +51,5 @@ not_before cells id place distinct within at =
     let read = get_or-take place cells k d before in
     let apart = distinct k place d before within in
     let same = get_or_default cells place d id within in
-    let swap = same_cell-swap (get_or cells k d) id in
+    let swap = same_cell_swap (get_or cells k d) id in
     cc)

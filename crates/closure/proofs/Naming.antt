@@ -14,7 +14,7 @@ use Rattle.closure.specs.Directory.{AreThere, cells_of}
 use Rattle.closure.specs.Lists.{has}
 use Rattle.closure.specs.declared.places.Places.{Places}
 use Rattle.closure.specs.declared.spot.Spot.{Spot}
-use Rattle.closure.proofs.Sameness.{same_cell-is, same_cell-swap}
+use Rattle.closure.proofs.Sameness.{same_cell_is, same_cell_swap}
 use Rattle.closure.proofs.Unions.{has-append}
 
 accounts_have : (player : Player) (players : List Player) → has (map Account players) (Account player) ≡ list_any (same_player player) players
@@ -50,7 +50,7 @@ planet_listed places at =
 module _ (places : Places) (player : Player) (req : Request) (seen : CellId → View) (there : AreThere places seen) (cell : CellId) where
   -- a cell is there as the one that is the same
   there_as : (id : CellId) → same_cell id cell ≡ true → is_there (seen cell).own ≡ has (cells_of places) id
-  there_as id same = there cell ∙ ap (has (cells_of places)) (sym (same_cell-is id cell same))
+  there_as id same = there cell ∙ ap (has (cells_of places)) (sym (same_cell_is id cell same))
 
   account_there : is_there (seen (Account player)).own ≡ list_any (same_player player) places.players.items
   account_there = there (Account player) ∙ account_listed places player
@@ -61,7 +61,7 @@ module _ (places : Places) (player : Player) (req : Request) (seen : CellId → 
 
   module _ (plays : list_any (same_player player) places.players.items ≡ true) where
     swaps : (id : CellId) → same_cell cell id ≡ same_cell id cell
-    swaps id = same_cell-swap cell id
+    swaps id = same_cell_swap cell id
 
     account_if_same : same_cell (Account player) cell ≡ true → is_there (seen cell).own ≡ true
     account_if_same same = there_as (Account player) same ∙ account_listed places player ∙ plays

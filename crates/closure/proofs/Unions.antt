@@ -9,7 +9,7 @@ use Rattle.std.proofs.lemmas.Bool.Decides.{nat_tests}
 use Rattle.base_ids.specs.Cells.{same_cell}
 use Rattle.base_ids.specs.declared.cell_id.CellId.{CellId}
 use Rattle.closure.specs.Lists.{AreDistinct, IsUnion, has, with_cell}
-use Rattle.closure.proofs.Sameness.{same_cell-is, same_cell-swap}
+use Rattle.closure.proofs.Sameness.{same_cell_is, same_cell_swap}
 
 pub has-append : (one other : List CellId) (cell : CellId) → has (one ++ other) cell ≡ (has one cell || has other cell)
 has-append one other cell = list_any-append (same_cell cell) one other
@@ -17,12 +17,12 @@ has-append one other cell = list_any-append (same_cell cell) one other
 -- a cell that isn't there is none of the cells there
 apart : (cells : List CellId) (id : CellId) → has cells id ≡ false → (k : ℕ) (d : CellId) → k < length cells → same_cell (get_or cells k d) id ≡ false
 apart cells id out k d within =
-    let swap = same_cell-swap (get_or cells k d) id in
+    let swap = same_cell_swap (get_or cells k d) id in
     let at = list_any_at (same_cell id) cells k d within in
     grind arith
 
-pub distinct-push : (cells : List CellId) (id : CellId) → AreDistinct cells → has cells id ≡ false → AreDistinct (cells ++ id ∷ [])
-distinct-push cells id distinct out = all_pairs_push (λ one other. same_cell one other ≡ false) cells id distinct (apart cells id out)
+pub distinct_push : (cells : List CellId) (id : CellId) → AreDistinct cells → has cells id ≡ false → AreDistinct (cells ++ id ∷ [])
+distinct_push cells id distinct out = all_pairs_push (λ one other. same_cell one other ≡ false) cells id distinct (apart cells id out)
 
 pub union_start : (first : List CellId) → IsUnion first [] first
 union_start first = record {
@@ -40,7 +40,7 @@ union_there first done all id union there = record {
   same = λ cell.
       let same = union.same cell in
       let split = has-append done (id ∷ []) cell in
-      let one = λ (is : same_cell cell id ≡ true). ap (has all) (same_cell-is cell id is) in
+      let one = λ (is : same_cell cell id ≡ true). ap (has all) (same_cell_is cell id is) in
       grind (arith, one);
   distinct = union.distinct;
 }
@@ -54,7 +54,7 @@ union_new first done all id union out = record {
       let split = has-append done (id ∷ []) cell in
       let split' = has-append all (id ∷ []) cell in
       grind arith;
-  distinct = λ distinct. distinct-push all id (union.distinct distinct) out;
+  distinct = λ distinct. distinct_push all id (union.distinct distinct) out;
 }
 
 union_one : (first done all new : List CellId) (id : CellId) → IsUnion first done all → new ≡ with_cell all id → IsUnion first (done ++ id ∷ []) new

@@ -9,7 +9,7 @@ use Rattle.tick_model.specs.Game.{brings}
 use Rattle.tick_model.specs.Views.{View}
 use Rattle.closure.specs.Closure.{AreBrought, AreMissing, IsEnough, IsLeastClosed, IsNeeded}
 use Rattle.closure.specs.Lists.{AreDistinct, IsUnion, has}
-use Rattle.closure.proofs.Sameness.{same_cell-is, same_cell-itself, same_cell-swap}
+use Rattle.closure.proofs.Sameness.{same_cell_is, same_cell_itself, same_cell_swap}
 use Rattle.closure.proofs.Fewer.{left, left_falls, not_before}
 use Rattle.closure.proofs.Unions.{has-append}
 
@@ -35,7 +35,7 @@ walk_start sees asked moment found union = record {
 
 -- the only cell of a list of one
 alone : (id cell : CellId) → has (id ∷ []) cell ≡ true → id ≡ cell
-alone id cell is = sym (same_cell-is cell id (let same : same_cell cell id ≡ true = grind arith in same))
+alone id cell is = sym (same_cell_is cell id (let same : same_cell cell id ≡ true = grind arith in same))
 
 -- the first cells, once there is one more and the list has grown
 pub take_grown : (found more : List CellId) (place : ℕ) (id : CellId) → place < length found → id ≡ get_or found place id
@@ -69,7 +69,7 @@ union_cases first second all cell union is = by_first (has first cell) refl
 module _ (sees : CellId → Option View) (asked : List CellId) (moment : ℕ) (found : List CellId) (place : ℕ) (id : CellId) (walked : IsWalked sees asked moment found place) (within : place < length found) (at : id ≡ get_or found place id) where
   -- the cell at the place is found
   found_here : has found id ≡ true
-  found_here = list_any_at (same_cell id) found place id within (ap (same_cell id) (sym at) ∙ same_cell-itself id)
+  found_here = list_any_at (same_cell id) found place id within (ap (same_cell id) (sym at) ∙ same_cell_itself id)
 
   -- it isn't held
   pub walk_lost : AreBrought (sees id) moment None → AreMissing sees asked moment (id ∷ [])

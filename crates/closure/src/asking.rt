@@ -28,10 +28,10 @@ pub fn asked<L: CellLook>(
 ) -> Result<Needed, AllocError>
     ensures { IfOk result (IsAsked places.now player req.now) }
 {
-    let mut ids = Ids::new(alloc);
     if !places.has_player(player) {
-        return Ok(Needed::Closed(ids));
+        return Ok(Needed::Closed(Ids::new(alloc)));
     }
+    let mut ids = Ids::new(alloc);
     ids.push(CellId::Account(player))?;
     let Some(at) = named_place(req) else {
         return Ok(Needed::Closed(ids));

@@ -17,3 +17,6 @@ pub use outcome::Needed;
 pub use places::Places;
 pub use spot::Spot;
 pub use walk::needed;
+
+#[cfg(test)]
+mod tests;

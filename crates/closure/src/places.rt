@@ -22,9 +22,7 @@ impl Places {
     pub fn has_player(&self, player: Player) -> bool
         ensures { result ≡ list_any (same_player player) self.now.players.items }
     {
-        self.players
-            .binary_search_by_key(&player.k, |other| other.k)
-            .is_ok()
+        self.players.binary_search(&player).is_ok()
     }
 
     /// Whether a planet stands at the place. It looks at a number of planets that grows with the logarithm of how many

@@ -6,7 +6,7 @@ use Rattle.closure.proofs.asking.asked.Goals as goal
 -- the caller is no player
 pub returns-then-not-has_player : goal.returns-then-not-has_player
 returns-then-not-has_player g c = λ seen there cell.
-    rw c.new-ids.ensures (sym (asks_none c.args.places.now c.args.player c.args.req.now seen there cell (sym c.has_player.ensures ∙ c.if-not-has_player.true)))
+    rw c.new.ensures (sym (asks_none c.args.places.now c.args.player c.args.req.now seen there cell (sym c.has_player.ensures ∙ c.if-not-has_player.true)))
 
 -- no place is named
 pub returns-in_default : goal.returns-in_default
