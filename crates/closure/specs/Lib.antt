@@ -1,0 +1,4 @@
+pub mod Lists
+pub mod Closure
+pub mod Answers
+pub mod Directory
