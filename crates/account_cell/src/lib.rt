@@ -1,0 +1,6 @@
+//! One account: what it is at a moment.
+#![tactic(auto)]
+
+mod account;
+
+pub use account::Account;
