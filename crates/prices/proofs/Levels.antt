@@ -24,7 +24,7 @@ bound_before first most a b s r some growing within =
     le_of_mul-le-mul_right {k = b ^ (s + r)} (omega (arith, low, high)) (one-le-pow (s + r) b some)
 
 -- what is within a bound at a cap is within it at each level up to there
-bound_below : (first most a b level cap : ℕ) → 1 ≤ b → b ≤ a → level ≤ cap → first * a ^ (cap - 1) ≤ most * b ^ (cap - 1) → first * a ^ (level - 1) ≤ most * b ^ (level - 1)
+pub bound_below : (first most a b level cap : ℕ) → 1 ≤ b → b ≤ a → level ≤ cap → first * a ^ (cap - 1) ≤ most * b ^ (cap - 1) → first * a ^ (level - 1) ≤ most * b ^ (level - 1)
 bound_below first most a b level cap some growing below within =
     let P : ℕ → Type 0 = λ n. first * a ^ n ≤ most * b ^ n in
     let same : cap - 1 ≡ (level - 1) + ((cap - 1) - (level - 1)) = omega arith in
@@ -54,7 +54,7 @@ pub numerator_to : (kind : Kind) → (growth_of kind).numerator ≤ 8
 numerator_to MetalMine = lit≤ tt
 numerator_to _ = lit≤ tt
 
-growing : (kind : Kind) → (growth_of kind).denominator ≤ (growth_of kind).numerator
+pub growing : (kind : Kind) → (growth_of kind).denominator ≤ (growth_of kind).numerator
 growing MetalMine = lit≤ tt
 growing _ = lit≤ tt
 

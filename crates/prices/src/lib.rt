@@ -7,7 +7,7 @@ mod laws;
 mod price;
 
 pub use duration::{Helpers, seconds};
-pub use laws::prices_are_capped;
+pub use laws::{durations_are_bounded, prices_are_capped};
 pub use price::cost;
 
 #[cfg(test)]

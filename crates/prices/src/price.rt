@@ -2,7 +2,7 @@ ghost use Rattle.std.specs.Prelude.{◌≡◌, ◌*◌, ◌-◌, ◌/◌, ◌^�
 ghost use Rattle.catalog.specs.Costs.{cost_of};
 ghost use Rattle.catalog.specs.Levels.{growth_of, level_cap_of};
 ghost use Rattle.catalog.specs.declared.amounts.TheConstants.{CAP};
-ghost use Rattle.prices.specs.Prices.{IsGrown, price_of};
+ghost use Rattle.prices.specs.Prices.{IsGrown, cost_in, price_of};
 
 use base_num::floor;
 use catalog::{Amounts, Kind};
@@ -13,6 +13,7 @@ use catalog::{Amounts, Kind};
 pub fn cost(kind: Kind, level: u8) -> Amounts
     requires from { 1 ≤ level }
     requires to { level ≤ level_cap_of kind }
+    ensures value { cost_in result ≡ price_of kind level }
     ensures metal { result.m ≡ (price_of kind level).metal }
     ensures crystal { result.c ≡ (price_of kind level).crystal }
     ensures deuterium { result.d ≡ (price_of kind level).deuterium }

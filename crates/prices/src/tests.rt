@@ -221,6 +221,25 @@ fn metal_and_crystal_take_time_and_helpers_shorten_it(rt: HostRuntime) {
     }
 }
 
+#[test]
+fn the_dearest_work_takes_the_longest(rt: HostRuntime) {
+    let building = Helpers::Building {
+        robotics: 0,
+        nanite: 0,
+    };
+    assert_eq!(rt; seconds(cost(Kind::Nanite, 8), building, 1), 276_480_000);
+    let research = Helpers::Research { lab: 0 };
+    assert_eq!(rt;
+        seconds(cost(Kind::Hyperdrive, 20), research, 1),
+        56_623_104_000
+    );
+    let yard = Helpers::Yard {
+        shipyard: 0,
+        nanite: 0,
+    };
+    assert_eq!(rt; seconds(cost(Kind::Deathstar, 1), yard, 1), 12_960_000);
+}
+
 /// Amounts of metal, crystal and deuterium.
 fn amounts(rt: &impl Abort, units: [u64; 3]) -> Amounts {
     let [m, c, d] = units;

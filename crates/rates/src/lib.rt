@@ -2,6 +2,7 @@
 #![tactic(auto)]
 
 mod growth;
+mod production;
 mod resources;
 mod stock;
 mod temperature;
@@ -9,6 +10,7 @@ mod works;
 mod yields;
 
 pub use catalog::storage_limit as limit;
+pub use production::{produce, storage_of};
 pub use resources::Resources;
 pub use stock::{GRAINS, basic_income, gain, stocks_after, storage, whole_units};
 pub use works::{COLDEST, HOTTEST, Hourly, Works};

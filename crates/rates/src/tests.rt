@@ -2,8 +2,8 @@ ghost use Rattle.std.specs.Prelude.{◌≡◌};
 ghost use Rattle.rates.specs.Energy.{IsInRange};
 
 use crate::{
-    COLDEST, GRAINS, HOTTEST, Resources, Works, basic_income, gain, hourly, limit, stocks_after,
-    storage, whole_units,
+    COLDEST, GRAINS, HOTTEST, Hourly, Resources, Works, basic_income, gain, hourly, limit, produce,
+    stocks_after, storage, storage_of, whole_units,
 };
 use catalog::{CAP, UNITS};
 
@@ -331,6 +331,67 @@ fn stocks_gain_the_basic_income_and_show_whole_units(rt: HostRuntime) {
     let second = stocks_after(first, 7, 1);
     assert_eq!(rt; second, resources(1_800_140, 35_996_470, 7));
     assert_eq!(rt; whole_units(second), resources(500, 9999, 0));
+}
+
+#[test]
+fn the_levels_of_three_stores_set_three_limits(rt: HostRuntime) {
+    assert_eq!(rt; storage_of(0, 0, 0), storage());
+    assert_eq!(rt;
+        storage_of(0, 1, 16),
+        resources(10_000, 20_000, 203_350_000)
+    );
+    assert_eq!(rt;
+        storage_of(15, 7, 0),
+        resources(110_925_000, 865_000, 10_000)
+    );
+}
+
+/// The seconds that pass, and the grains of the stocks then. The wanted numbers were added up second by second with
+/// Python's integers.
+const PRODUCED: [(u64, [u64; 3]); 8] = [
+    (0, [35_996_400, 0, 72_000_000]),
+    (1, [35_996_420, 4111, 72_000_000]),
+    (179, [35_999_980, 735_869, 72_000_000]),
+    (180, [36_000_000, 739_980, 72_000_000]),
+    (181, [36_000_000, 744_091, 72_000_000]),
+    (17_513, [36_000_000, 71_995_943, 72_000_000]),
+    (17_514, [36_000_000, 72_000_000, 72_000_000]),
+    (1_099_511_627_775, [36_000_000, 72_000_000, 72_000_000]),
+];
+
+#[test]
+fn each_stock_is_produced_up_to_its_own_limit(rt: HostRuntime) {
+    let stock = resources(9999 * GRAINS, 0, 20_000 * GRAINS);
+    let limits = storage_of(0, 1, 0);
+    let hourly = yields(20, 4111, 30);
+    for (seconds, [metal, crystal, deuterium]) in PRODUCED {
+        assert_eq!(rt;
+            produce(stock, limits, hourly, seconds),
+            resources(metal, crystal, deuterium),
+            "in {seconds} s"
+        );
+    }
+    let before = produce(stock, limits, hourly, 179);
+    assert_eq!(rt; whole_units(before), resources(9999, 204, 20_000));
+    let then = produce(before, limits, hourly, 1);
+    assert_eq!(rt; whole_units(then), resources(10_000, 205, 20_000));
+}
+
+/// Yields of metal, crystal and deuterium, without energy.
+fn yields(metal: u64, crystal: u64, deuterium: u64) -> Hourly
+    ensures metal { result.metal ≡ metal }
+    ensures crystal { result.crystal ≡ crystal }
+    ensures deuterium { result.deuterium ≡ deuterium }
+    ensures given { result.given ≡ 0 }
+    ensures need { result.need ≡ 0 }
+{
+    Hourly {
+        metal,
+        crystal,
+        deuterium,
+        given: 0,
+        need: 0,
+    }
 }
 
 /// Metal, crystal and deuterium.
