@@ -12,9 +12,8 @@ abbrev pub count_of : Kind → List BuildingItem → ℕ
 count_of kind items = count_by (λ item. kind_number item.kind.kind == kind_number kind) items
 
 -- No building rises above its highest level, even if all items of the queue are built.
-abbrev pub AreWithinCaps : List ℕ → List BuildingItem → Type 0
-AreWithinCaps levels items =
-    (kind : Kind) → IsTrue (is_building kind) → slice_index levels (place_in BUILDINGS kind) + count_of kind items ≤ level_cap_of kind
+pub record AreWithinCaps (levels : List ℕ) (items : List BuildingItem) : Type 0 where
+  pub each : (kind : Kind) → IsTrue (is_building kind) → slice_index levels (place_in BUILDINGS kind) + count_of kind items ≤ level_cap_of kind
 
 -- no number of a list is above a bound
 abbrev pub AreAtMost : ℕ → List ℕ → Type 0

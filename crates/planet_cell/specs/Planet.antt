@@ -1,5 +1,5 @@
 -- What a planet of the program stands for.
-use Rattle.std.specs.Prelude.{List, map}
+use Rattle.std.specs.Prelude.{◌≡◌, List, map}
 use Rattle.base_ids.specs.declared.cell_id.CellId.TheVariants.{Planet as PlanetId}
 use Rattle.base_ids.specs.declared.coord.Coord.{Coord}
 use Rattle.planet_cell.specs.declared.building_item.BuildingItem.{BuildingItem}
@@ -28,3 +28,9 @@ item_of at item =
 -- the building queue of a planet
 abbrev pub items_of : Planet → List Item
 items_of planet = map (item_of planet.at) planet.buildings.items
+
+-- Two planets are the same: they stand at the same place, have the same of their own, and build the same.
+pub record AreSame (first second : Planet) : Type 0 where
+  pub at : first.at ≡ second.at
+  pub fields : fields_of first ≡ fields_of second
+  pub items : first.buildings.items ≡ second.buildings.items

@@ -2,8 +2,10 @@
 #![tactic(auto)]
 
 mod building_item;
+mod growing;
 mod planet;
 mod reading;
 
 pub use building_item::{BuildingItem, Placed};
+pub use growing::seconds_add_up;
 pub use planet::Planet;

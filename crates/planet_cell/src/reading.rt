@@ -4,6 +4,7 @@ ghost use Rattle.catalog.specs.declared.classes.TheConstants.{BUILDINGS};
 
 use crate::planet::Planet;
 use catalog::{Building, Kind};
+use rates::{Hourly, Resources, Works, hourly, storage_of};
 
 /// The place of a building in the order of `catalog::BUILDINGS`, counted from 0.
 pub fn place_of(building: Building) -> usize
@@ -13,18 +14,75 @@ pub fn place_of(building: Building) -> usize
     usize::from(building.kind.number() - Kind::MetalMine.number())
 }
 
+/// The place of the satellites in the order of `catalog::UNIT_KINDS`.
+const SATELLITE: usize = 13;
+
 impl Planet {
     ghost use Rattle.std.specs.Prelude.{◌≡◌, ◌≤◌};
     ghost use Rattle.catalog.specs.Levels.{level_cap_of};
+    ghost use Rattle.catalog.specs.declared.settings.TheConstants.{TOP_SPEED};
     ghost use Rattle.planet_cell.specs.Planet.{fields_of};
-    ghost use Rattle.tick_model.specs.Production.{level_of};
+    ghost use Rattle.rates.specs.Energy.{IsInRange};
+    ghost use Rattle.rates.specs.Production.{IsStorable};
+    ghost use Rattle.rates.specs.Yields.{AreSmall};
+    ghost use Rattle.tick_model.specs.Production.{level_of, limits_of, works_of, yields_of};
+    ghost use Rattle.tick_model.specs.Refusals.{used_fields};
 
     /// The level of a building.
-    #[tactic(auto, unfolding(tick_model::specs::Production::level_of))]
+    #[tactic(auto, using(crate::proofs::Caps::kind_within), unfolding(tick_model::specs::Production::level_of))]
     pub fn level(&self, building: Building) -> u8
         ensures value { result ≡ level_of (fields_of self.now) building.kind }
         ensures within { result ≤ level_cap_of building.kind }
     {
         self.levels[place_of(building)]
+    }
+
+    /// The works of the planet, which yield by their levels, tenths and number.
+    #[tactic(auto, using(crate::proofs::Caps::caps), unfolding(tick_model::specs::Production::level_of, tick_model::specs::Production::works_of))]
+    pub fn works(&self) -> Works
+        ensures value { result ≡ works_of (fields_of self.now) }
+        ensures within { IsInRange result }
+    {
+        let [metal, crystal, deuterium, solar, ..] = self.levels;
+        Works {
+            metal,
+            crystal,
+            deuterium,
+            solar,
+            sets: self.tenths,
+            satellites: self.units[SATELLITE],
+            t: self.temperature,
+        }
+    }
+
+    /// What the planet yields an hour, in units, and its energy, at a speed of 1 to `catalog::TOP_SPEED`.
+    #[tactic(auto, unfolding(tick_model::specs::Production::yields_of))]
+    pub fn yields(&self, speed: u32) -> Hourly
+        requires { speed ≤ TOP_SPEED }
+        ensures value { result ≡ yields_of speed (fields_of self.now) }
+        ensures within { AreSmall result }
+    {
+        hourly(&self.works(), speed)
+    }
+
+    /// How far production fills the stocks of the planet, in units.
+    #[tactic(auto, using(crate::proofs::Caps::caps), unfolding(tick_model::specs::Production::level_of, tick_model::specs::Production::limits_of))]
+    pub fn limits(&self) -> Resources
+        ensures value { result ≡ limits_of (fields_of self.now) }
+        ensures within { IsStorable result }
+    {
+        let [_, _, _, _, metal, crystal, tank, ..] = self.levels;
+        storage_of(metal, crystal, tank)
+    }
+
+    /// How many fields are used: each level of a building uses one.
+    pub fn used_fields(&self) -> u16
+        ensures { result ≡ used_fields (fields_of self.now) }
+    {
+        let mut used = 0;
+        'levels: for level in &self.levels {
+            used += u16::from(*level);
+        }
+        used
     }
 }
