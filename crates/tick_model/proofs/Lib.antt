@@ -1,0 +1,4 @@
+pub mod Lists
+pub mod Writes
+pub mod Owns
+pub mod Gains

@@ -6,10 +6,10 @@ use Rattle.base_ids.specs.declared.cell_id.CellId.TheVariants.{Account}
 use Rattle.tick_model.specs.Requests.{is_there}
 use Rattle.tick_model.specs.Universe.{of_planet, PlanetFields, Item, same_class, Setting, State}
 
--- an item is one of these
-abbrev pub IsIn : Item → List Item → Type 0
-IsIn item [] = ⊥
-IsIn item (first ∷ later) = (item ≡ first) ⊎ IsIn item later
+-- something is one of these
+abbrev pub IsIn : {A : Type 0} → A → List A → Type 0
+IsIn x [] = ⊥
+IsIn x (first ∷ later) = (x ≡ first) ⊎ IsIn x later
 
 -- two items of one class bear the same number
 abbrev pub same_order : Item → Item → Bool

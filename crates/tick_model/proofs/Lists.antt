@@ -1,0 +1,268 @@
+-- Lists of items and fleets: what is among them, what filters leave of them, and items that are distinct.
+use Rattle.std.proofs.Common.{◌≡◌, ℕ, ◌⊎◌, inl, inr, Bool, true, false, cond, eqb, ◌&&◌, ◌||◌, List, [], ◌∷◌, ◌++◌, Option, None, Some, filter, arith, refl, ap, ◌∙◌, sym, subst}
+use Rattle.std.specs.List.{list_any, filter_map, cons_option}
+use Rattle.std.proofs.lemmas.Bool.Decides.{nat_tests}
+use Rattle.base_ids.specs.Cells.{same_cell}
+use Rattle.base_ids.specs.declared.cell_id.CellId.{CellId}
+use Rattle.base_ids.specs.declared.cell_id.CellId.TheVariants.{Account, Planet}
+use Rattle.base_ids.proofs.Names.{coord_is, player_is}
+use Rattle.laziness.proofs.Bringing.{test, never}
+use Rattle.tick_model.specs.Rules.{IsIn, same_order, AreDistinct}
+use Rattle.tick_model.specs.Universe.{QueueClass, Buildings, Researches, Yard, same_class, Item}
+
+-- Tests.
+
+pub and-is : (a b : Bool) → a && b ≡ true → (a ≡ true) × (b ≡ true)
+and-is true b is = (refl, is)
+and-is false b is = absurd cc
+
+pub and-from : (a b : Bool) → a ≡ true → b ≡ true → a && b ≡ true
+and-from a b first second = rw first second
+
+-- a test that can't be passed fails
+pub fails : (b : Bool) → (b ≡ true → ⊥) → b ≡ false
+fails true never_true = absurd (never_true refl)
+fails false never_true = refl
+
+same_number : (n : ℕ) → eqb n n ≡ true
+same_number n = grind (arith, nat_tests)
+
+number-is : (m n : ℕ) → eqb m n ≡ true → m ≡ n
+number-is m n is = grind (arith, nat_tests)
+
+-- a cell is itself
+pub cell-itself : (a : CellId) → same_cell a a ≡ true
+cell-itself (Account a) = same_number a.k
+cell-itself (Planet a) = rw (same_number a.g, same_number a.s, same_number a.p) refl
+
+-- cells that are the same are one
+pub cell-is : (a b : CellId) → same_cell a b ≡ true → a ≡ b
+cell-is (Account a) (Account b) is = ap Account (player_is a b (number-is a.k b.k is))
+cell-is (Account a) (Planet b) is = absurd cc
+cell-is (Planet a) (Account b) is = absurd cc
+cell-is (Planet a) (Planet b) is =
+    let first = and-is (eqb a.g b.g && eqb a.s b.s) (eqb a.p b.p) is in
+    let second = and-is (eqb a.g b.g) (eqb a.s b.s) first.0 in
+    ap Planet (coord_is a b (number-is a.g b.g second.0) (number-is a.s b.s second.1) (number-is a.p b.p first.1))
+
+pub cell-from : (a b : CellId) → a ≡ b → same_cell a b ≡ true
+cell-from a b same = subst (λ x. same_cell a x ≡ true) same (cell-itself a)
+
+-- which of two cells is named first makes no difference
+pub cell-turned : (a b : CellId) → same_cell a b ≡ same_cell b a
+cell-turned a b =
+    elim (test (same_cell a b)) [
+      | inl same ↦ same ∙ sym (cell-from b a (sym (cell-is a b same)))
+      | inr other ↦ other ∙ sym (fails (same_cell b a) (λ same. never (same_cell a b) (cell-from a b (sym (cell-is b a same))) other))
+    ]
+
+pub class-itself : (a : QueueClass) → same_class a a ≡ true
+class-itself Buildings = refl
+class-itself Researches = refl
+class-itself Yard = refl
+
+-- classes that are the same are one
+pub class-is : (a b : QueueClass) → same_class a b ≡ true → a ≡ b
+class-is Buildings Buildings is = refl
+class-is Buildings Researches is = absurd cc
+class-is Buildings Yard is = absurd cc
+class-is Researches Buildings is = absurd cc
+class-is Researches Researches is = refl
+class-is Researches Yard is = absurd cc
+class-is Yard Buildings is = absurd cc
+class-is Yard Researches is = absurd cc
+class-is Yard Yard is = refl
+
+pub class-from : (a b : QueueClass) → a ≡ b → same_class a b ≡ true
+class-from a b same = subst (λ x. same_class a x ≡ true) same (class-itself a)
+
+-- which of two classes is named first makes no difference
+pub class-turned : (a b : QueueClass) → same_class a b ≡ same_class b a
+class-turned a b =
+    elim (test (same_class a b)) [
+      | inl same ↦ same ∙ sym (class-from b a (sym (class-is a b same)))
+      | inr other ↦ other ∙ sym (fails (same_class b a) (λ same. never (same_class a b) (class-from a b (sym (class-is b a same))) other))
+    ]
+
+-- What is among others.
+
+-- what stands among the first or the second stands among both
+pub in-first : {A : Type 0} (x : A) (xs ys : List A) → IsIn x xs → IsIn x (xs ++ ys)
+in-first x [] ys is = absurd is
+in-first x (first ∷ xs) ys (inl same) = inl same
+in-first x (first ∷ xs) ys (inr later) = inr (in-first x xs ys later)
+
+pub in-second : {A : Type 0} (x : A) (xs ys : List A) → IsIn x ys → IsIn x (xs ++ ys)
+in-second x [] ys is = is
+in-second x (first ∷ xs) ys is = inr (in-second x xs ys is)
+
+pub in-append : {A : Type 0} (x : A) (xs ys : List A) → IsIn x (xs ++ ys) → IsIn x xs ⊎ IsIn x ys
+in-append x [] ys is = inr is
+in-append x (first ∷ xs) ys (inl same) = inl (inl same)
+in-append x (first ∷ xs) ys (inr later) = elim (in-append x xs ys later) [ inl is ↦ inl (inr is) | inr is ↦ inr is ]
+
+in-kept : {A : Type 0} (b : Bool) (x first : A) (rest : List A) → IsIn x rest → IsIn x (cond b (first ∷ rest) rest)
+in-kept true x first rest is = inr is
+in-kept false x first rest is = is
+
+-- what is among some and passes a test is among those that pass
+pub in-filter : {A : Type 0} (p : A → Bool) (x : A) (xs : List A) → IsIn x xs → p x ≡ true → IsIn x (filter p xs)
+in-filter p x [] is passes = absurd is
+in-filter p x (first ∷ xs) (inl same) passes = let first_passes : p first ≡ true = ap p (sym same) ∙ passes in rw first_passes (inl same)
+in-filter p x (first ∷ xs) (inr later) passes = in-kept (p first) x first (filter p xs) (in-filter p x xs later passes)
+
+from-kept : {A : Type 0} (p : A → Bool) (x first : A) (xs : List A) (b : Bool) → p first ≡ b → (IsIn x (filter p xs) → IsIn x xs × (p x ≡ true))
+    → IsIn x (cond b (first ∷ filter p xs) (filter p xs)) → IsIn x (first ∷ xs) × (p x ≡ true)
+from-kept p x first xs true passes rest (inl same) = (inl same, ap p same ∙ passes)
+from-kept p x first xs true passes rest (inr later) = let both = rest later in (inr both.0, both.1)
+from-kept p x first xs false fails rest later = let both = rest later in (inr both.0, both.1)
+
+-- and what is among those that pass is among them and passes
+pub from-filter : {A : Type 0} (p : A → Bool) (x : A) (xs : List A) → IsIn x (filter p xs) → IsIn x xs × (p x ≡ true)
+from-filter p x [] is = absurd is
+from-filter p x (first ∷ xs) is = from-kept p x first xs (p first) refl (from-filter p x xs) is
+
+-- What filters leave.
+
+-- if all pass, all stay
+pub filter-all : {A : Type 0} (p : A → Bool) (xs : List A) → ((x : A) → IsIn x xs → p x ≡ true) → filter p xs ≡ xs
+filter-all p [] all = refl
+filter-all p (x ∷ xs) all = rw (all x (inl refl)) (ap (λ rest. x ∷ rest) (filter-all p xs (λ y is. all y (inr is))))
+
+-- if none passes, none stays
+pub filter-none : {A : Type 0} (p : A → Bool) (xs : List A) → ((x : A) → IsIn x xs → p x ≡ false) → filter p xs ≡ []
+filter-none p [] none = refl
+filter-none p (x ∷ xs) none = rw (none x (inl refl)) (filter-none p xs (λ y is. none y (inr is)))
+
+both-kept : {A : Type 0} (p : A → Bool) (b c : Bool) (x : A) (rest : List A) → p x ≡ b
+    → filter p (cond c (x ∷ rest) rest) ≡ cond (c && b) (x ∷ filter p rest) (filter p rest)
+both-kept p b true x rest is = ap (λ a. cond a (x ∷ filter p rest) (filter p rest)) is
+both-kept p b false x rest is = refl
+
+-- one filter after another keeps what passes both tests
+pub filter-both : {A : Type 0} (p q : A → Bool) (xs : List A) → filter p (filter q xs) ≡ filter (λ x. q x && p x) xs
+filter-both p q [] = refl
+filter-both p q (x ∷ xs) =
+    both-kept p (p x) (q x) x (filter q xs) refl ∙ ap (λ rest. cond (q x && p x) (x ∷ rest) rest) (filter-both p q xs)
+
+-- tests that agree on some elements keep the same of them
+pub filter-alike : {A : Type 0} (p q : A → Bool) (xs : List A) → ((x : A) → IsIn x xs → p x ≡ q x) → filter p xs ≡ filter q xs
+filter-alike p q [] alike = refl
+filter-alike p q (x ∷ xs) alike =
+    ap (λ b. cond b (x ∷ filter p xs) (filter p xs)) (alike x (inl refl))
+    ∙ ap (λ rest. cond (q x) (x ∷ rest) rest) (filter-alike p q xs (λ y is. alike y (inr is)))
+
+and-turned : (a b : Bool) → a && b ≡ b && a
+and-turned true true = refl
+and-turned true false = refl
+and-turned false true = refl
+and-turned false false = refl
+
+-- which of two filters comes first makes no difference
+pub filter-turned : {A : Type 0} (p q : A → Bool) (xs : List A) → filter p (filter q xs) ≡ filter q (filter p xs)
+filter-turned p q xs =
+    filter-both p q xs ∙ filter-alike (λ x. q x && p x) (λ x. p x && q x) xs (λ x is. and-turned (q x) (p x)) ∙ sym (filter-both q p xs)
+
+idle-at : (a b : Bool) → (a ≡ true → b ≡ true) → b && a ≡ a
+idle-at true b kept = rw (kept refl) refl
+idle-at false true kept = refl
+idle-at false false kept = refl
+
+-- a filter that keeps all that a second one keeps makes no difference before it
+pub filter-idle : {A : Type 0} (p q : A → Bool) (xs : List A) → ((x : A) → IsIn x xs → p x ≡ true → q x ≡ true) → filter p (filter q xs) ≡ filter p xs
+filter-idle p q xs kept =
+    filter-both p q xs ∙ filter-alike (λ x. q x && p x) p xs (λ x is. idle-at (p x) (q x) (kept x is))
+
+-- Changes of each element.
+
+-- if nothing changes, all stay
+pub filter_map-all : {A : Type 0} (xs : List A) → filter_map Some xs ≡ xs
+filter_map-all [] = refl
+filter_map-all (x ∷ xs) = ap (λ rest. x ∷ rest) (filter_map-all xs)
+
+gone-at : {A : Type 0} (p : A → Bool) (x : A) (rest : List A) (new : Option A) → p x ≡ false → ((y : A) → new ≡ Some y → p y ≡ true → p x ≡ true)
+    → filter p (cons_option new rest) ≡ filter p rest
+gone-at p x rest None out shrinks = refl
+gone-at p x rest (Some y) out shrinks = let left : p y ≡ false = fails (p y) (λ is. never (p x) (shrinks y refl is) out) in rw left refl
+
+-- if what passes stays, and nothing comes to pass, the filter keeps the same
+pub filter-stays : {A : Type 0} (p : A → Bool) (h : A → Option A) (xs : List A) → ((x : A) → IsIn x xs → p x ≡ true → h x ≡ Some x)
+    → ((x y : A) → h x ≡ Some y → p y ≡ true → p x ≡ true) → filter p (filter_map h xs) ≡ filter p xs
+filter-stays p h [] stays shrinks = refl
+filter-stays p h (x ∷ xs) stays shrinks =
+    let same = filter-stays p h xs (λ y is. stays y (inr is)) shrinks in
+    elim (test (p x)) [
+      | inl passes ↦ ap (λ new. filter p (cons_option new (filter_map h xs))) (stays x (inl refl) passes) ∙ ap (λ rest. cond (p x) (x ∷ rest) rest) same
+      | inr out ↦ gone-at p x (filter_map h xs) (h x) out (shrinks x) ∙ same ∙ sym (ap (λ b. cond b (x ∷ filter p xs) (filter p xs)) out)
+    ]
+
+changed-at : {A : Type 0} (p : A → Bool) (new : Option A) (xs ys : List A) → filter p xs ≡ filter p ys
+    → filter p (cons_option new xs) ≡ filter p (cons_option new ys)
+changed-at p None xs ys same = same
+changed-at p (Some y) xs ys same = ap (λ rest. cond (p y) (y ∷ rest) rest) same
+
+-- if nothing comes to pass, what passes after a change comes from what passed before
+pub filter-changed : {A : Type 0} (p : A → Bool) (h : A → Option A) (xs : List A) → ((x y : A) → h x ≡ Some y → p y ≡ true → p x ≡ true)
+    → filter p (filter_map h xs) ≡ filter p (filter_map h (filter p xs))
+filter-changed p h [] shrinks = refl
+filter-changed p h (x ∷ xs) shrinks =
+    let same = filter-changed p h xs shrinks in
+    let tested = λ (b : Bool). filter p (filter_map h (cond b (x ∷ filter p xs) (filter p xs))) in
+    elim (test (p x)) [
+      | inl passes ↦ changed-at p (h x) (filter_map h xs) (filter_map h (filter p xs)) same ∙ sym (ap tested passes)
+      | inr out ↦ gone-at p x (filter_map h xs) (h x) out (shrinks x) ∙ same ∙ sym (ap tested out)
+    ]
+
+-- Items that are distinct.
+
+neither : (a b : Bool) → a || b ≡ false → (a ≡ false) × (b ≡ false)
+neither true b is = absurd cc
+neither false b is = (refl, is)
+
+pub none-any : {A : Type 0} (p : A → Bool) (x : A) (xs : List A) → list_any p xs ≡ false → IsIn x xs → p x ≡ false
+none-any p x [] none is = absurd is
+none-any p x (first ∷ xs) none (inl same) = ap p same ∙ (neither (p first) (list_any p xs) none).0
+none-any p x (first ∷ xs) none (inr later) = none-any p x xs (neither (p first) (list_any p xs) none).1 later
+
+pub any-none : {A : Type 0} (p : A → Bool) (xs : List A) → ((x : A) → IsIn x xs → p x ≡ false) → list_any p xs ≡ false
+any-none p [] none = refl
+any-none p (x ∷ xs) none = rw (none x (inl refl)) (any-none p xs (λ y is. none y (inr is)))
+
+number-turned : (m n : ℕ) → eqb m n ≡ eqb n m
+number-turned m n = grind (arith, nat_tests)
+
+-- which of two orders is named first makes no difference
+pub order-turned : (a b : Item) → same_order a b ≡ same_order b a
+order-turned a b = λ i. class-turned a.class b.class i && number-turned a.number b.number i
+
+-- among distinct items, two of one class with the same number are one
+pub distinct-one : (xs : List Item) (a b : Item) → AreDistinct xs → IsIn a xs → IsIn b xs → same_order a b ≡ true → a ≡ b
+distinct-one [] a b distinct has_a has_b same = absurd has_a
+distinct-one (x ∷ xs) a b distinct (inl first) (inl second) same = first ∙ sym second
+distinct-one (x ∷ xs) a b distinct (inl first) (inr second) same =
+    never (same_order a b) same (ap (λ y. same_order y b) first ∙ none-any (same_order x) b xs distinct.0 second)
+distinct-one (x ∷ xs) a b distinct (inr first) (inl second) same =
+    never (same_order a b) same (ap (same_order a) second ∙ order-turned a x ∙ none-any (same_order x) a xs distinct.0 first)
+distinct-one (x ∷ xs) a b distinct (inr first) (inr second) same = distinct-one xs a b distinct.1 first second same
+
+distinct-kept : (b : Bool) (x : Item) (xs : List Item) → list_any (same_order x) xs ≡ false → AreDistinct xs → AreDistinct (cond b (x ∷ xs) xs)
+distinct-kept true x xs apart distinct = (apart, distinct)
+distinct-kept false x xs apart distinct = distinct
+
+-- some of distinct items are distinct
+pub distinct-filter : (p : Item → Bool) (xs : List Item) → AreDistinct xs → AreDistinct (filter p xs)
+distinct-filter p [] distinct = tt
+distinct-filter p (x ∷ xs) distinct =
+    let apart = any-none (same_order x) (filter p xs) (λ y is. none-any (same_order x) y xs distinct.0 (from-filter p y xs is).0) in
+    distinct-kept (p x) x (filter p xs) apart (distinct-filter p xs distinct.1)
+
+-- distinct items and others that are distinct from these and among each other are distinct
+pub distinct-append : (xs ys : List Item) → AreDistinct xs → AreDistinct ys → ((a b : Item) → IsIn a xs → IsIn b ys → same_order a b ≡ false) → AreDistinct (xs ++ ys)
+distinct-append [] ys first second apart = second
+distinct-append (x ∷ xs) ys first second apart =
+    let rest = distinct-append xs ys first.1 second (λ a b has_a has_b. apart a b (inr has_a) has_b) in
+    let none : (y : Item) → IsIn y (xs ++ ys) → same_order x y ≡ false = λ y is. elim (in-append y xs ys is) [
+      | inl before ↦ none-any (same_order x) y xs first.0 before
+      | inr after ↦ apart x y (inl refl) after
+    ] in
+    (any-none (same_order x) (xs ++ ys) none, rest)
