@@ -1,0 +1,4 @@
+pub mod Among
+pub mod Owned
+pub mod Seen
+pub mod Bases

@@ -1,0 +1,66 @@
+-- The universe that a base of the program stands for.
+use Rattle.std.specs.Prelude.{List, [], ◌++◌, find, map, Option, None, Some}
+use Rattle.std.specs.List.{flat_map}
+use Rattle.account_cell.specs.Account.{account_fields}
+use Rattle.account_cell.specs.declared.account.Account.{Account}
+use Rattle.base_bytes.specs.declared.base.Base.{Base}
+use Rattle.base_ids.specs.Cells.{same_coord, same_player}
+use Rattle.base_ids.specs.declared.cell_id.CellId.{CellId}
+use Rattle.base_ids.specs.declared.cell_id.CellId.TheVariants.{Account as AccountId, Planet as PlanetId}
+use Rattle.planet_cell.specs.Planet.{fields_of, items_of}
+use Rattle.planet_cell.specs.declared.planet.Planet.{Planet}
+use Rattle.tick_model.specs.Universe.{Item, Own, of_nothing, of_account, of_planet, Setting, Universe}
+use Rattle.tick_model.specs.Views.{View}
+
+-- the names of the cells: the accounts, then the planets, each in their order
+abbrev pub cells_of : List Account → List Planet → List CellId
+cells_of accounts planets = map (λ account. AccountId account.player) accounts ++ map (λ planet. PlanetId planet.at) planets
+
+-- the rules of a base, and the directory of its cells
+abbrev pub setting_of : Base → Setting
+setting_of base =
+    record {
+      rules = record { seed = base.seed; speed = base.speed; speed_from = base.speed_from; speed_to = base.speed_to };
+      cells = cells_of base.accounts.items base.planets.items;
+    }
+
+abbrev pub own_account : Option Account → Own
+own_account None = of_nothing
+own_account (Some account) = of_account (account_fields account)
+
+abbrev pub own_planet : Option Planet → Own
+own_planet None = of_nothing
+own_planet (Some planet) = of_planet (fields_of planet)
+
+-- what each cell has of its own: what the lists have under its name
+abbrev pub own_of : List Account → List Planet → CellId → Own
+own_of accounts planets (AccountId player) = own_account (find (λ account. same_player account.player player) accounts)
+own_of accounts planets (PlanetId at) = own_planet (find (λ planet. same_coord planet.at at) planets)
+
+-- the items of all queues
+abbrev pub all_items : List Planet → List Item
+all_items planets = flat_map items_of planets
+
+-- the universe of a base; no fleet flies yet
+abbrev pub universe_of : Base → Universe
+universe_of base =
+    record {
+      setting = setting_of base;
+      moment = base.moment;
+      state =
+          record {
+            number = base.number;
+            own = own_of base.accounts.items base.planets.items;
+            items = all_items base.planets.items;
+            fleets = [];
+          };
+    }
+
+-- what is seen of an account
+abbrev pub account_seen : Account → View
+account_seen account =
+    record { own = of_account (account_fields account); items = []; fleets = []; planets = account.planets.items; units = account.units }
+
+-- what is seen of a planet
+abbrev pub planet_seen : Planet → View
+planet_seen planet = record { own = of_planet (fields_of planet); items = items_of planet; fleets = []; planets = []; units = 0 }

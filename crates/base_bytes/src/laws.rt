@@ -1,0 +1,25 @@
+ghost use Rattle.std.specs.Prelude.{◌≡◌};
+ghost use Rattle.std.specs.List.{Contains};
+ghost use Rattle.account_cell.specs.declared.account.Account.{Account};
+ghost use Rattle.base_bytes.specs.Base.{account_seen, planet_seen, setting_of, universe_of};
+ghost use Rattle.base_bytes.specs.Sound.{IsSound};
+ghost use Rattle.base_bytes.specs.declared.base.Base.{Base};
+ghost use Rattle.base_ids.specs.declared.cell_id.CellId.{CellId};
+ghost use Rattle.base_ids.specs.declared.cell_id.CellId.TheVariants.{Account as AccountId, Planet as PlanetId};
+ghost use Rattle.laziness.specs.World.{IsBase};
+ghost use Rattle.planet_cell.specs.declared.planet.Planet.{Planet};
+ghost use Rattle.tick_model.specs.Game.{game};
+ghost use Rattle.tick_model.specs.Views.{nothing_seen, view};
+ghost use Rattle.tick_model.specs.World.{base_of};
+
+/// A sound base stands for a universe that is a base of histories. Of each of its accounts and planets the universe shows what
+/// the base has of it, and it shows nothing of any other cell. It does nothing: the laws are its contract.
+pub fn stands_for_a_universe()
+    ensures base { (base : Base) → IsSound base → IsBase (game (setting_of base)) (base_of (universe_of base)) }
+    ensures accounts { (base : Base) (account : Account) → IsSound base → Contains base.accounts.items account
+        → view (setting_of base).cells (universe_of base).state (AccountId account.player) ≡ account_seen account }
+    ensures planets { (base : Base) (planet : Planet) → IsSound base → Contains base.planets.items planet
+        → view (setting_of base).cells (universe_of base).state (PlanetId planet.at) ≡ planet_seen planet }
+    ensures others { (base : Base) (cell : CellId) → IsSound base → (Contains (setting_of base).cells cell → ⊥)
+        → view (setting_of base).cells (universe_of base).state cell ≡ nothing_seen }
+{}

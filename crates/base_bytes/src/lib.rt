@@ -1,0 +1,8 @@
+//! A universe at one moment, as it lies in memory, and the laws of what it stands for.
+#![tactic(auto)]
+
+mod base;
+mod laws;
+
+pub use base::{Base, MOST_REQUESTS};
+pub use laws::stands_for_a_universe;
