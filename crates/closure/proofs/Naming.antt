@@ -8,9 +8,9 @@ use Rattle.base_ids.specs.declared.player.Player.{Player}
 use Rattle.base_ids.specs.declared.cell_id.CellId.{CellId}
 use Rattle.base_ids.specs.declared.cell_id.CellId.TheVariants.{Account, Planet}
 use Rattle.request_text.specs.declared.request.Request.{Request}
-use Rattle.tick_model.specs.Requests.{asked, is_there, names}
+use Rattle.tick_model.specs.Requests.{asked, names}
 use Rattle.tick_model.specs.Views.{View}
-use Rattle.closure.specs.Directory.{AreThere, cells_of}
+use Rattle.closure.specs.Directory.{cells_of}
 use Rattle.closure.specs.Lists.{has}
 use Rattle.closure.specs.declared.places.Places.{Places}
 use Rattle.closure.specs.declared.spot.Spot.{Spot}
@@ -47,47 +47,47 @@ planet_listed places at =
     let some = planets_have at places.planets.items in
     grind arith
 
-module _ (places : Places) (player : Player) (req : Request) (seen : CellId → View) (there : AreThere places seen) (cell : CellId) where
-  -- a cell is there as the one that is the same
-  there_as : (id : CellId) → same_cell id cell ≡ true → is_there (seen cell).own ≡ has (cells_of places) id
-  there_as id same = there cell ∙ ap (has (cells_of places)) (sym (same_cell_is id cell same))
+module _ (places : Places) (player : Player) (req : Request) (seen : CellId → View) (cell : CellId) where
+  -- a cell is listed as the one that is the same
+  listed_as : (id : CellId) → same_cell id cell ≡ true → has (cells_of places) cell ≡ has (cells_of places) id
+  listed_as id same = ap (has (cells_of places)) (sym (same_cell_is id cell same))
 
-  account_there : is_there (seen (Account player)).own ≡ list_any (same_player player) places.players.items
-  account_there = there (Account player) ∙ account_listed places player
+  account_here : has (cells_of places) (Account player) ≡ list_any (same_player player) places.players.items
+  account_here = account_listed places player
 
   -- who is no player asks for none
-  pub asks_none : list_any (same_player player) places.players.items ≡ false → asked seen player req cell ≡ has [] cell
-  asks_none none = let at = account_there ∙ none in grind arith
+  pub asks_none : list_any (same_player player) places.players.items ≡ false → asked (cells_of places) seen player req cell ≡ has [] cell
+  asks_none none = let at = account_here ∙ none in grind arith
 
   module _ (plays : list_any (same_player player) places.players.items ≡ true) where
     swaps : (id : CellId) → same_cell cell id ≡ same_cell id cell
     swaps id = same_cell_swap cell id
 
-    account_if_same : same_cell (Account player) cell ≡ true → is_there (seen cell).own ≡ true
-    account_if_same same = there_as (Account player) same ∙ account_listed places player ∙ plays
+    account_if_same : same_cell (Account player) cell ≡ true → has (cells_of places) cell ≡ true
+    account_if_same same = listed_as (Account player) same ∙ account_listed places player ∙ plays
 
     -- no place is named
-    pub asks_account : names seen req cell ≡ false → asked seen player req cell ≡ has (Account player ∷ []) cell
+    pub asks_account : names seen req cell ≡ false → asked (cells_of places) seen player req cell ≡ has (Account player ∷ []) cell
     asks_account unnamed =
-        let at = account_there ∙ plays in
+        let at = account_here ∙ plays in
         let swap = swaps (Account player) in
         grind (arith, account_if_same)
 
     -- a place is named where no planet stands
     pub asks_nowhere : (at : Coord) → names seen req cell ≡ same_cell (Planet at) cell → list_any (λ spot. same_coord at spot.at) places.planets.items ≡ false
-        → asked seen player req cell ≡ has (Account player ∷ []) cell
+        → asked (cells_of places) seen player req cell ≡ has (Account player ∷ []) cell
     asks_nowhere at named empty =
-        let here = account_there ∙ plays in
+        let here = account_here ∙ plays in
         let swap = swaps (Account player) in
-        let lost = λ (same : same_cell (Planet at) cell ≡ true). there_as (Planet at) same ∙ planet_listed places at ∙ empty in
+        let lost = λ (same : same_cell (Planet at) cell ≡ true). listed_as (Planet at) same ∙ planet_listed places at ∙ empty in
         grind (arith, account_if_same, lost)
 
     -- a place is named where a planet stands
     pub asks_planet : (at : Coord) → names seen req cell ≡ same_cell (Planet at) cell → list_any (λ spot. same_coord at spot.at) places.planets.items ≡ true
-        → asked seen player req cell ≡ has (Account player ∷ Planet at ∷ []) cell
+        → asked (cells_of places) seen player req cell ≡ has (Account player ∷ Planet at ∷ []) cell
     asks_planet at named stands =
-        let here = account_there ∙ plays in
+        let here = account_here ∙ plays in
         let swap = swaps (Account player) in
         let swap' = swaps (Planet at) in
-        let planet = λ (same : same_cell (Planet at) cell ≡ true). there_as (Planet at) same ∙ planet_listed places at ∙ stands in
+        let planet = λ (same : same_cell (Planet at) cell ≡ true). listed_as (Planet at) same ∙ planet_listed places at ∙ stands in
         grind (arith, account_if_same, planet)

@@ -4,7 +4,7 @@ use Rattle.base_ids.specs.declared.player.Player.{Player}
 use Rattle.base_ids.specs.declared.cell_id.CellId.{CellId}
 use Rattle.base_ids.specs.declared.cell_id.CellId.TheVariants.{Account, Planet}
 use Rattle.request_text.specs.declared.request.Request.{Request}
-use Rattle.tick_model.specs.Requests.{asked, is_there}
+use Rattle.tick_model.specs.Requests.{asked}
 use Rattle.tick_model.specs.Views.{View}
 use Rattle.closure.specs.Lists.{has}
 use Rattle.closure.specs.declared.outcome.Needed.{Needed}
@@ -15,11 +15,7 @@ use Rattle.closure.specs.declared.places.Places.{Places}
 abbrev pub cells_of : Places → List CellId
 cells_of places = map Account places.players.items ++ map (λ spot. Planet spot.at) places.planets.items
 
--- exactly the cells of the directory are there
-abbrev pub AreThere : Places → (CellId → View) → Type 0
-AreThere places seen = (cell : CellId) → is_there (seen cell).own ≡ has (cells_of places) cell
-
--- exactly the cells that a request asks for, whatever is seen of those that are there; none is missing
+-- exactly the cells that a request asks for, whatever is seen; none is missing
 abbrev pub IsAsked : Places → Player → Request → Needed → Type 0
-IsAsked places player req (Closed cells) = (seen : CellId → View) → AreThere places seen → (cell : CellId) → has cells cell ≡ asked seen player req cell
+IsAsked places player req (Closed cells) = (seen : CellId → View) (cell : CellId) → has cells cell ≡ asked (cells_of places) seen player req cell
 IsAsked places player req (Missing cells) = ⊥
