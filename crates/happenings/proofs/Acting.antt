@@ -1,6 +1,6 @@
 -- An event that happens to cells that are held, and the universe that they show.
-use Rattle.std.proofs.Common.{◌≡◌, ℕ, ◌+◌, ◌-◌, Bool, true, false, cond, List, [], ◌∷◌, map, refl, ap, ◌∙◌, sym, subst, inl, inr, Option, Some, None}
-use Rattle.std.specs.Prelude.{IfSome, option_map}
+use Rattle.std.proofs.Common.{◌≡◌, ℕ, ◌+◌, ◌-◌, Bool, true, false, cond, ◌&&◌, List, [], ◌∷◌, map, refl, ap, ◌∙◌, sym, subst, inl, inr, Option, Some, None}
+use Rattle.std.specs.Prelude.{IfSome, option_map, if◌then◌else◌}
 use Rattle.std.specs.BTreeMap.{get}
 use Rattle.base_ids.specs.Cells.{same_cell}
 use Rattle.base_ids.specs.declared.cell_id.CellId.{CellId}
@@ -88,5 +88,30 @@ shows_event setting f old new due cell item later shows named found items place 
     ∙ queue-is cell.planet.at cell.planet.buildings.items ∙ items in
     let seconds : item.second - f.at (Planet at) ≡ due.second - cell.second = λ i. second i - sym shown.second i in
     let olds : (y : Item) → IsIn y (items_of cell.planet) → is_building_at (Planet at) y ≡ true =
-    subst (λ (c : Coord). (y : Item) → IsIn y (map (item_of c) cell.planet.buildings.items) → is_building_at (Planet c) y ≡ true) own (all-building cell.planet.at cell.planet.buildings.items) in
-    ?
+    (λ y is. subst (λ (c : Coord). is_building_at (Planet c) y ≡ true) own (all-building cell.planet.at cell.planet.buildings.items y is)) in
+    let brought : view setting.cells b.universe (Planet at) ≡ planet_seen (of_planet fields) (items_of cell.planet) =
+    view-advanced setting (λ y. if footprint e y then item.second - f.at y else 0) f.universe (Planet at)
+    ∙ (λ i. gains setting.rules (cond (has i) (seconds i) 0) (sym shown.seen i))
+    ∙ seen-gains setting.rules (due.second - cell.second) (fields_of cell.planet) (items_of cell.planet) in
+    let seen = event-seen setting b.universe at fields (items_of cell.planet) item later brought items place olds in
+    let finishes : finished setting.rules.speed fields (items_of cell.planet) ≡ done setting.rules.speed item later (of_planet fields) = ap (finished setting.rules.speed fields) items in
+    let here : ShowsCell setting g (Planet at) (done_at setting.rules.speed due.second cell) =
+    record {
+      second = sym second ∙ sym (ap (λ c. cond c item.second (f.at (Planet at))) has);
+      seen = (λ i. planet_seen (finishes i).own (finishes i).queue) ∙ sym seen;
+    } in
+    let placed = happens cell found in
+    subst (λ (o : Option Stand). IfSome o (ShowsCell setting g x)) (sym (placed x))
+    (put_at setting g x (same_cell (Planet at) x) (done_at setting.rules.speed due.second cell) (held_at old x)
+    (λ same. subst (λ y. ShowsCell setting g y (done_at setting.rules.speed due.second cell)) (cell-is (Planet at) x same) here)
+    (λ other.
+    let outside : footprint e x ≡ false = ap (λ c. same_cell c x) place ∙ other in
+    let still : view setting.cells b.universe x ≡ view setting.cells f.universe x =
+    view-advanced setting (λ y. if footprint e y then item.second - f.at y else 0) f.universe x
+    ∙ ap (λ c. gains setting.rules (cond c (item.second - f.at x) 0) (view setting.cells f.universe x)) outside ∙ none-gained setting.rules (view setting.cells f.universe x) in
+    let owes : Owes (view setting.cells b.universe item.cell) e =
+    ap (λ c. queue Buildings (view setting.cells b.universe c).items) place ∙ ap (λ (v : View). queue Buildings v.items) brought ∙ queue-is cell.planet.at cell.planet.buildings.items ∙ items in
+    let kept = event-outside setting b.universe e x owes outside ∙ still in
+    let at_same : g.at x ≡ f.at x = ap (λ c. cond c item.second (f.at x)) outside in
+    if_some (held_at old x) (ShowsCell setting f x) (ShowsCell setting g x)
+    (λ stand shown. record { second = shown.second ∙ sym at_same; seen = shown.seen ∙ sym kept }) (shows x)))
