@@ -1,4 +1,5 @@
 pub mod Caps
+pub mod Counts
 pub mod Queues
 pub mod Seconds
 pub mod Spans

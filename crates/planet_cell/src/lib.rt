@@ -7,6 +7,7 @@ mod paying;
 mod planet;
 mod queueing;
 mod reading;
+mod refusing;
 
 pub use building_item::{BuildingItem, Placed};
 pub use growing::seconds_add_up;
