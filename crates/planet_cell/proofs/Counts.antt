@@ -1,13 +1,15 @@
 -- What is counted for a refusal.
-use Rattle.std.proofs.Common.{◌≡◌, ℕ, ◌+◌, ◌<◌, ◌≤◌, Bool, true, false, cond, List, [], ◌∷◌, map, length, get_or, refl, ap, sym, ◌∙◌, arith, slice_index}
-use Rattle.std.specs.Prelude.{IsTrue, ◌==◌, ◌||◌, not}
-use Rattle.std.specs.List.{count_by}
-use Rattle.std.proofs.lemmas.Bool.{eq-eqb}
+use Rattle.std.proofs.Common.{◌≡◌, ℕ, ◌+◌, ◌<◌, ◌≤◌, Bool, true, false, cond, List, [], ◌∷◌, map, length, get_or, refl, ap, sym, ◌∙◌, arith}
+use Rattle.std.specs.Prelude.{IsTrue, ◌==◌, ◌||◌, nat_lt, not}
+use Rattle.std.proofs.lemmas.Bool.{eq-eqb, ltb-true}
 use Rattle.std.proofs.lemmas.Bool.Decides.{nat_tests}
 use Rattle.std.proofs.lemmas.List.Sums.{position_or_len_is, sum_by-cons}
 use Rattle.base_ids.specs.declared.coord.Coord.{Coord}
+use Rattle.catalog.specs.Classes.{is_work}
 use Rattle.catalog.specs.Kinds.{kind_number, place_in}
+use Rattle.catalog.specs.declared.classes.TheConstants.{WORKS}
 use Rattle.catalog.specs.declared.kind.Kind.{Kind}
+use Rattle.catalog.specs.declared.kind.Kind.TheVariants.{MetalMine}
 use Rattle.planet_cell.specs.Bounds.{count_of}
 use Rattle.planet_cell.specs.Planet.{item_of}
 use Rattle.planet_cell.specs.declared.building_item.BuildingItem.{BuildingItem}
@@ -22,6 +24,10 @@ queued_items kind at (first ∷ later) =
     ∙ ap (λ (n : ℕ). cond (kind_number first.kind.kind == kind_number kind) 1 0 + n) (queued_items kind at later)
     ∙ sym (sum_by-cons (λ (item : BuildingItem). cond (kind_number item.kind.kind == kind_number kind) 1 0) first later)
 
+follows : (a b : Bool) → IsTrue (not a || b) → IsTrue a → IsTrue b
+follows true b either holds = either
+follows false b either holds = cc
+
 different : (a b : ℕ) → (a ≡ b → ⊥) → (a == b) ≡ false
 different a b apart = grind (arith, nat_tests, apart)
 
@@ -33,3 +39,11 @@ pub first_place : (kinds : List Kind) (kind : Kind) (place : ℕ) → place ≤ 
 first_place kinds kind place within before here =
     sym
     (position_or_len_is (λ other. kind_number other == kind_number kind) kinds place kind within (λ k below. different _ _ (before k below)) (λ below. eq-eqb _ _ (here below)))
+
+-- the works are listed
+work_listed : (kind : Kind) → IsTrue (not (is_work kind) || nat_lt (place_in WORKS kind) 5)
+work_listed MetalMine = refl
+work_listed _ = refl
+
+pub work_within : (kind : Kind) → IsTrue (is_work kind) → place_in WORKS kind < 5
+work_within kind class = ltb-true _ _ (follows _ _ (work_listed kind) class)

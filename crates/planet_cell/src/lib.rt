@@ -3,7 +3,9 @@
 
 mod building_item;
 mod growing;
+mod ordering;
 mod paying;
+mod places;
 mod planet;
 mod queueing;
 mod reading;

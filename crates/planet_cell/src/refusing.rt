@@ -1,23 +1,8 @@
-ghost use Rattle.std.specs.Prelude.{◌≡◌};
-ghost use Rattle.catalog.specs.Kinds.{place_in};
-
 use crate::paying::can_pay;
+use crate::places::place_in;
 use crate::planet::Planet;
 use catalog::{Building, Class, Kind, TECHNOLOGIES, Techs};
 use tick_model::{LEVEL_CAP, MOST_QUEUED, NO_FIELDS, POOR, QUEUE_FULL, REQUIRES};
-
-/// The place of a kind in a list, counted from 0. A kind that isn't listed stands after all that are.
-#[tactic(auto, using(crate::proofs::Counts::first_place))]
-fn place_in(kinds: &[Kind], kind: Kind) -> usize
-    ensures { result ≡ place_in kinds.now kind }
-{
-    'kinds: for (place, other) in kinds.iter().enumerate() {
-        if other.number() == kind.number() {
-            return place;
-        }
-    }
-    kinds.len()
-}
 
 impl Planet {
     ghost use Rattle.std.specs.Prelude.{◌≡◌, ◌+◌, ◌<◌, ◌≤◌, ◌&&◌, not, if◌then◌else◌, nat_le, length};
@@ -81,7 +66,8 @@ impl Planet {
     fn is_capped(&self, building: Building) -> bool
         ensures { result ≡ nat_le (level_cap_of building.kind) (level_of (fields_of self.now) building.kind + queued building.kind (items_of self.now)) }
     {
-        usize::from(self.level(building)) + self.queued(building) >= usize::from(building.kind.level_cap())
+        usize::from(self.level(building)) + self.queued(building)
+            >= usize::from(building.kind.level_cap())
     }
 
     /// How many items of a kind stand in the queue.
@@ -113,6 +99,10 @@ impl Planet {
         if let Some(building) = Building::of(kind) {
             return self.level(building);
         }
-        techs.n.get(place_in(&TECHNOLOGIES, kind)).copied().unwrap_or(0)
+        techs
+            .n
+            .get(place_in(&TECHNOLOGIES, kind))
+            .copied()
+            .unwrap_or(0)
     }
 }

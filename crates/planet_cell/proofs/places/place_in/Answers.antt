@@ -1,8 +1,8 @@
-use Rattle.std.proofs.Common.{◌≡◌, ap, arith, sym, ◌∙◌}
+use Rattle.std.proofs.Common.{ap, arith, sym, ◌∙◌}
 use Rattle.std.proofs.lemmas.List.{get_or_default}
 use Rattle.catalog.specs.Kinds.{kind_number}
 use Rattle.planet_cell.proofs.Counts.{first_place}
-use Rattle.planet_cell.proofs.refusing.place_in.Goals as goal
+use Rattle.planet_cell.proofs.places.place_in.Goals as goal
 
 pub returns-then-number : goal.returns-then-number
 returns-then-number c =
