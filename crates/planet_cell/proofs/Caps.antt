@@ -1,13 +1,13 @@
 -- The levels of a planet are within the caps of their kinds.
-use Rattle.std.proofs.Common.{◌≡◌, ℕ, ◌+◌, ◌≤◌, ◌≤ℤ◌, List, refl, arith, slice_index}
-use Rattle.std.specs.Prelude.{IsTrue, ℤ}
+use Rattle.std.proofs.Common.{ℕ, ◌≤◌, List, refl, arith, slice_index}
+use Rattle.std.specs.Prelude.{IsTrue}
 use Rattle.catalog.specs.Classes.{is_building}
 use Rattle.catalog.specs.Kinds.{place_in}
 use Rattle.catalog.specs.Levels.{level_cap_of}
 use Rattle.catalog.specs.declared.classes.TheConstants.{BUILDINGS}
 use Rattle.catalog.specs.declared.kind.Kind.{Kind}
 use Rattle.catalog.specs.declared.kind.Kind.TheVariants.{MetalMine, CrystalMine, DeuteriumSynth, SolarPlant, MetalStore, CrystalStore, DeuteriumTank, Robotics, Nanite}
-use Rattle.planet_cell.specs.Bounds.{AreWithinCaps, count_of}
+use Rattle.planet_cell.specs.Bounds.{AreWithinCaps}
 use Rattle.planet_cell.specs.declared.building_item.BuildingItem.{BuildingItem}
 
 -- no level is above the cap of its kind

@@ -1,4 +1,6 @@
 pub mod Caps
+pub mod Counts
+pub mod Granting
 pub mod Queues
 pub mod Seconds
 pub mod Spans

@@ -1,14 +1,15 @@
 -- What stays within the caps as the queue of a planet changes.
-use Rattle.std.proofs.Common.{◌≡◌, ◌≢◌, ℕ, zero, suc, ◌+◌, ◌<◌, ◌≤◌, Bool, true, false, cond, List, [], ◌∷◌, ◌++◌, length, drop, get_or, set, refl, ap, sym, subst, ◌∙◌, arith, slice_index, get_or-set_same, get_or-set_other, le_refl, inl, inr}
-use Rattle.std.specs.Prelude.{IsTrue, Option, None, Some, slice_index_or, slice_get, slice_set, ◌==◌, ◌||◌, not}
+use Rattle.std.proofs.Common.{◌≡◌, ◌≢◌, ℕ, zero, suc, ◌+◌, ◌<◌, ◌≤◌, Bool, true, false, cond, List, [], ◌∷◌, ◌++◌, length, drop, get_or, refl, ap, sym, subst, ◌∙◌, arith, slice_index, get_or-set_other, le_refl, inl, inr}
+use Rattle.std.specs.Prelude.{IsTrue, Some, slice_index_or, slice_get, slice_set, ◌==◌, ◌||◌, not, if◌then◌else◌}
 use Rattle.std.specs.List.{position_or_len}
 use Rattle.std.proofs.lemmas.Bool.{cases_eq}
 use Rattle.std.proofs.lemmas.Bool.Decides.{nat_tests}
-use Rattle.std.proofs.lemmas.List.Sums.{sum_by-cons, sum_by_push}
+use Rattle.std.proofs.lemmas.List.Sums.{sum_by-cons, sum_by-set, sum_by_push}
 use Rattle.catalog.specs.Classes.{is_building}
 use Rattle.catalog.specs.Kinds.{kind_number, place_in}
 use Rattle.catalog.specs.Levels.{level_cap_of}
 use Rattle.catalog.specs.declared.classes.TheConstants.{BUILDINGS}
+use Rattle.catalog.specs.declared.classes.Building.{Building}
 use Rattle.catalog.specs.declared.kind.Kind.{Kind}
 use Rattle.catalog.specs.declared.kind.Kind.TheVariants.{MetalMine}
 use Rattle.catalog.specs.declared.kind.TheConstants.{KINDS}
@@ -50,6 +51,10 @@ count_last : (kind : Kind) (items : List BuildingItem) (last : BuildingItem) →
 unfolding counts
 count_last kind items last = sum_by_push (λ (item : BuildingItem). cond (kind_number item.kind.kind == kind_number kind) 1 0) items last
 
+count_set : (kind : Kind) (items : List BuildingItem) (place : ℕ) (other next : BuildingItem) → place < length items → count_of kind (slice_set items place next) + counts kind (get_or items place other) ≡ count_of kind items + counts kind next
+unfolding counts
+count_set kind items place other next within = sum_by-set (λ (item : BuildingItem). cond (kind_number item.kind.kind == kind_number kind) 1 0) items place next other within
+
 counts_this : (kind : Kind) (item : BuildingItem) → kind_number item.kind.kind ≡ kind_number kind → counts kind item ≡ 1
 unfolding counts
 counts_this kind item same = grind (arith, nat_tests)
@@ -75,7 +80,7 @@ caps_started levels (head ∷ later) first next capped here same =
     let kinds : next.kind.kind ≡ head.kind.kind = same ∙ ap (λ (x : BuildingItem). x.kind.kind) (sym equal) in
     record {
       each = λ kind class.
-        omega (arith, capped.each kind class, count_first kind head later, count_first kind next later, counts_same kind head next kinds);
+          omega (arith, capped.each kind class, count_first kind head later, count_first kind next later, counts_same kind head next kinds);
     }
 
 -- a number that is written is there, if its place is
@@ -92,16 +97,16 @@ raised : (place : Kind → ℕ) (levels : List ℕ) (first : BuildingItem) (late
     → slice_index (slice_set levels (place first.kind.kind) (slice_index levels (place first.kind.kind) + 1)) (place kind) + count_of kind later ≤ level_cap_of kind
 raised place levels first later apart capped kind class =
     let here : (kind_number first.kind.kind ≡ kind_number kind) → slice_index (slice_set levels (place first.kind.kind) (slice_index levels (place first.kind.kind) + 1)) (place kind) + count_of kind later ≤ level_cap_of kind =
-      λ same.
-      let kinds = one_kind first.kind.kind kind same in
-      let family = λ (x : Kind). slice_index (slice_set levels (place first.kind.kind) (slice_index levels (place first.kind.kind) + 1)) (place x) + count_of x later ≤ level_cap_of x in
-      subst family kinds
-      (omega (arith, set_here levels (place first.kind.kind) (slice_index levels (place first.kind.kind) + 1), capped first.kind.kind first.kind.class, count_first first.kind.kind first later, counts_this first.kind.kind first refl)) in
+    λ same.
+    let kinds = one_kind first.kind.kind kind same in
+    let family = λ (x : Kind). slice_index (slice_set levels (place first.kind.kind) (slice_index levels (place first.kind.kind) + 1)) (place x) + count_of x later ≤ level_cap_of x in
+    subst family kinds
+    (omega (arith, set_here levels (place first.kind.kind) (slice_index levels (place first.kind.kind) + 1), capped first.kind.kind first.kind.class, count_first first.kind.kind first later, counts_this first.kind.kind first refl)) in
     let there : (kind_number first.kind.kind ≢ kind_number kind) → slice_index (slice_set levels (place first.kind.kind) (slice_index levels (place first.kind.kind) + 1)) (place kind) + count_of kind later ≤ level_cap_of kind =
-      λ other.
-      let places : place kind ≢ place first.kind.kind = λ same. other (apart first.kind.kind kind first.kind.class class (sym same)) in
-      let kept : slice_index (slice_set levels (place first.kind.kind) (slice_index levels (place first.kind.kind) + 1)) (place kind) ≡ slice_index levels (place kind) = get_or-set_other levels _ _ _ _ places in
-      omega (arith, kept, capped kind class, count_first kind first later) in
+    λ other.
+    let places : place kind ≢ place first.kind.kind = λ same. other (apart first.kind.kind kind first.kind.class class (sym same)) in
+    let kept : slice_index (slice_set levels (place first.kind.kind) (slice_index levels (place first.kind.kind) + 1)) (place kind) ≡ slice_index levels (place kind) = get_or-set_other levels _ _ _ _ places in
+    omega (arith, kept, capped kind class, count_first kind first later) in
     elim (cases_eq (kind_number first.kind.kind) (kind_number kind)) [ inl same ↦ here same | inr other ↦ there other ]
 
 -- with an item of its own in the queue a building is below its cap
@@ -123,7 +128,7 @@ caps_raised levels (head ∷ later) first place level capped here some at rises 
     let family = λ (p : ℕ). (rises : level ≡ slice_index levels p + 1) → AreWithinCaps (slice_set levels p level) later in
     let written = λ (l : ℕ). AreWithinCaps (slice_set levels (place_in BUILDINGS head.kind.kind) l) later in
     let next : AreWithinCaps (slice_set levels (place_in BUILDINGS head.kind.kind) (slice_index levels (place_in BUILDINGS head.kind.kind) + 1)) later =
-      record { each = raised (place_in BUILDINGS) levels head later buildings_apart capped.each } in
+    record { each = raised (place_in BUILDINGS) levels head later buildings_apart capped.each } in
     subst family there (λ up. subst written (sym up) next) rises
 
 -- the first item is of a building that can still rise
@@ -135,3 +140,50 @@ first_below planet (head ∷ later) first capped here =
     let family = λ (x : BuildingItem). slice_index planet.levels (place_in BUILDINGS x.kind.kind) < level_cap_of x.kind.kind in
     let below = head_below (place_in BUILDINGS) planet.levels head later (capped.each head.kind.kind head.kind.class) in
     subst family equal below
+
+-- one item more
+pushed : (place : Kind → ℕ) (levels : List ℕ) (items : List BuildingItem) (last : BuildingItem)
+    → ((kind : Kind) → IsTrue (is_building kind) → slice_index levels (place kind) + count_of kind items ≤ level_cap_of kind)
+    → slice_index levels (place last.kind.kind) + count_of last.kind.kind items < level_cap_of last.kind.kind
+    → (kind : Kind) → IsTrue (is_building kind) → slice_index levels (place kind) + count_of kind (items ++ last ∷ []) ≤ level_cap_of kind
+pushed place levels items last capped below kind class =
+    let here : (kind_number last.kind.kind ≡ kind_number kind) → slice_index levels (place kind) + count_of kind (items ++ last ∷ []) ≤ level_cap_of kind =
+    λ same.
+    let family = λ (x : Kind). slice_index levels (place x) + count_of x (items ++ last ∷ []) ≤ level_cap_of x in
+    subst family (one_kind last.kind.kind kind same) (omega (arith, below, count_last last.kind.kind items last, counts_this last.kind.kind last refl)) in
+    let there : (kind_number last.kind.kind ≢ kind_number kind) → slice_index levels (place kind) + count_of kind (items ++ last ∷ []) ≤ level_cap_of kind =
+    λ other. omega (arith, capped kind class, count_last kind items last, counts_other kind last other) in
+    elim (cases_eq (kind_number last.kind.kind) (kind_number kind)) [ inl same ↦ here same | inr other ↦ there other ]
+
+-- a building that can still rise can be ordered once more
+pub caps_ordered : (planet : PlanetFields) (items : List BuildingItem) (last : BuildingItem) → AreWithinCaps planet.levels items → level_of planet last.kind.kind + count_of last.kind.kind items < level_cap_of last.kind.kind
+    → AreWithinCaps planet.levels (items ++ last ∷ [])
+unfolding level_of
+caps_ordered planet items last capped below =
+    record { each = pushed (place_in BUILDINGS) planet.levels items last capped.each below }
+
+pub caps_pushed : (planet : PlanetFields) (items next : List BuildingItem) (last : BuildingItem) (fits : Bool) → next ≡ (if fits then items ++ last ∷ [] else items) → AreWithinCaps planet.levels items
+    → level_of planet last.kind.kind + count_of last.kind.kind items < level_cap_of last.kind.kind → AreWithinCaps planet.levels next
+caps_pushed planet items next last true is capped below = subst (AreWithinCaps planet.levels) (sym is) (caps_ordered planet items last capped below)
+caps_pushed planet items next last false is capped below = subst (AreWithinCaps planet.levels) (sym is) capped
+
+-- an item gives way to another one of its kind
+pub caps_numbered : (levels : List ℕ) (items : List BuildingItem) (place : ℕ) (last next : BuildingItem) → place < length items → last ≡ get_or items place last → next.kind ≡ last.kind → AreWithinCaps levels items
+    → AreWithinCaps levels (slice_set items place next)
+caps_numbered levels items place last next within here same capped =
+    record {
+      each = λ kind class.
+          let kinds : next.kind.kind ≡ last.kind.kind = ap (λ (x : Building). x.kind) same in
+          let set = count_set kind items place last next within in
+          let found : counts kind (get_or items place last) ≡ counts kind last = ap (counts kind) (sym here) in
+          omega (arith, capped.each kind class, set, found, counts_same kind last next kinds);
+    }
+
+-- the first item of a queue is of a building that can still rise
+pub caps_first : (planet : PlanetFields) (items next : List BuildingItem) (first last : BuildingItem) → items ≡ [] → next ≡ items ++ last ∷ [] → AreWithinCaps planet.levels items → last.kind.kind ≡ first.kind.kind
+    → level_of planet first.kind.kind < level_cap_of first.kind.kind → AreWithinCaps planet.levels next
+caps_first planet items next first last empty is capped same below =
+    let none : count_of last.kind.kind items ≡ 0 = ap (count_of last.kind.kind) empty in
+    let family = λ (x : Kind). level_of planet x + count_of last.kind.kind items < level_cap_of x in
+    let room : level_of planet last.kind.kind + count_of last.kind.kind items < level_cap_of last.kind.kind = subst family (sym same) (omega (arith, none, below)) in
+    subst (AreWithinCaps planet.levels) (sym is) (caps_ordered planet items last capped room)

@@ -1,15 +1,15 @@
 -- How the first of the items that wait is found.
-use Rattle.std.proofs.Common.{◌≡◌, ℕ, Bool, true, false, List, [], ◌∷◌, map, drop, refl, ap, sym, subst, ◌∙◌, ◌+◌, ◌<◌, length, arith, slice_index}
+use Rattle.std.proofs.Common.{◌≡◌, ℕ, zero, suc, get_or, true, false, List, [], ◌∷◌, map, drop, refl, ap, subst, ◌∙◌, ◌+◌, ◌<◌, length, arith, slice_index}
 use Rattle.std.specs.Prelude.{None, Some, slice_get, slice_index_or, slice_set}
 use Rattle.base_ids.specs.declared.coord.Coord.{Coord}
 use Rattle.catalog.specs.Costs.{Cost}
 use Rattle.catalog.specs.Kinds.{place_in}
 use Rattle.catalog.specs.declared.classes.TheConstants.{BUILDINGS}
 use Rattle.planet_cell.specs.Planet.{item_of}
-use Rattle.planet_cell.specs.Queue.{finished}
+use Rattle.planet_cell.specs.Queue.{finished, numbered}
 use Rattle.planet_cell.specs.declared.building_item.BuildingItem.{BuildingItem}
 use Rattle.rates.specs.declared.resources.Resources.{Resources}
-use Rattle.tick_model.specs.Buildings.{Built, Works, can_pay, next_price, paid, raised, started, starts_first}
+use Rattle.tick_model.specs.Buildings.{Works, can_pay, next_price, paid, raised, started, starts_first}
 use Rattle.tick_model.specs.Production.{level_of}
 use Rattle.tick_model.specs.Universe.{Item, PlanetFields, of_planet}
 
@@ -32,8 +32,8 @@ starts_now speed second planet at (head ∷ later) first next price stock here c
     let less : stock ≡ paid planet.stock (next_price planet head.kind.kind) = subst (λ (x : Cost). stock ≡ paid planet.stock x) costs left in
     let item : item_of at next ≡ started speed second planet (item_of at head) = runs ∙ ap (λ (x : BuildingItem). started speed second planet (item_of at x)) equal in
     let works : record { planet = record planet { stock = stock }; queue = item_of at next ∷ map (item_of at) later }
-      ≡ record { planet = record planet { stock = paid planet.stock (next_price planet head.kind.kind) }; queue = started speed second planet (item_of at head) ∷ map (item_of at) later } =
-      λ i. record { planet = record planet { stock = less i }; queue = item i ∷ map (item_of at) later } in
+    ≡ record { planet = record planet { stock = paid planet.stock (next_price planet head.kind.kind) }; queue = started speed second planet (item_of at head) ∷ map (item_of at) later } =
+    λ i. record { planet = record planet { stock = less i }; queue = item i ∷ map (item_of at) later } in
     rw pays works
 
 -- the first item can't be paid, and is dropped
@@ -60,5 +60,16 @@ finishes speed planet next at (head ∷ rest) later queue first place here some 
     let spots : place ≡ place_in BUILDINGS head.kind.kind = spot ∙ ap (λ (x : BuildingItem). place_in BUILDINGS x.kind.kind) equal in
     let result = λ (x : BuildingItem) (p : ℕ) (l : List BuildingItem). starts_first speed x.second (record planet { levels = slice_set planet.levels p (slice_index planet.levels p + 1) }) (map (item_of at) l) in
     let all : record { planet = next; queue = queue } ≡ starts_first speed head.second (raised planet head.kind.kind) (map (item_of at) rest) =
-      works ∙ (λ i. result (equal i) (spots i) (lists i)) in
+    works ∙ (λ i. result (equal i) (spots i) (lists i)) in
     ap (λ (x : Works). record { own = of_planet x.planet; queue = x.queue }) all
+
+-- the last item gets its number
+pub numbers : (number : ℕ) (at : Coord) (items : List BuildingItem) (place : ℕ) (last next : BuildingItem) → place + 1 ≡ length items → last ≡ get_or items place last
+    → item_of at next ≡ record (item_of at last) { number = number } → map (item_of at) (slice_set items place next) ≡ numbered number (map (item_of at) items)
+numbers number at [] place last next here is same = absurd (omega arith)
+numbers number at (item ∷ []) zero last next here is same = ap (λ (x : Item). x ∷ []) (same ∙ ap (λ (x : BuildingItem). record (item_of at x) { number = number }) is)
+numbers number at (item ∷ []) (suc place) last next here is same = absurd (omega arith)
+numbers number at (item ∷ second ∷ later) zero last next here is same = absurd (omega arith)
+numbers number at (item ∷ second ∷ later) (suc place) last next here is same =
+    let rest = numbers number at (second ∷ later) place last next (omega arith) is same in
+    ap (λ (x : List Item). item_of at item ∷ x) rest

@@ -3,10 +3,13 @@
 
 mod building_item;
 mod growing;
+mod ordering;
 mod paying;
+mod places;
 mod planet;
 mod queueing;
 mod reading;
+mod refusing;
 
 pub use building_item::{BuildingItem, Placed};
 pub use growing::seconds_add_up;

@@ -1,17 +1,15 @@
 use crate::building_item::BuildingItem;
 use crate::paying::{can_pay, paid};
+use crate::places::place_of;
 use crate::planet::Planet;
-use crate::reading::place_of;
 
 impl Planet {
-    ghost use Rattle.std.specs.Prelude.{◌≡◌, ◌<◌, ◌≤◌, slice_get};
-    ghost use Rattle.catalog.specs.Levels.{level_cap_of};
+    ghost use Rattle.std.specs.Prelude.{◌≡◌, ◌≤◌, slice_get};
     ghost use Rattle.catalog.specs.declared.settings.TheConstants.{TOP_SPEED};
-    ghost use Rattle.planet_cell.specs.Planet.{fields_of, item_of, items_of};
+    ghost use Rattle.planet_cell.specs.Planet.{fields_of, items_of};
     ghost use Rattle.planet_cell.specs.Queue.{Runs, built_of, finished, works_of};
     ghost use Rattle.ports.specs.declared.clock.TheConstants.{LATEST};
-    ghost use Rattle.tick_model.specs.Buildings.{started, starts_first};
-    ghost use Rattle.tick_model.specs.Production.{level_of};
+    ghost use Rattle.tick_model.specs.Buildings.{starts_first};
 
     /// The building that runs is done: its level rises. Then the first of the items that wait is paid and starts, if it can be
     /// paid; those before it are dropped.
@@ -55,21 +53,5 @@ impl Planet {
         ensures { result ≡ slice_get self.now.buildings.items 0 }
     {
         self.buildings.first().copied()
-    }
-
-    /// An item that starts to run at a second.
-    fn started(&self, item: BuildingItem, second: u64, speed: u32) -> BuildingItem
-        requires second { second ≤ LATEST }
-        requires level { level_of (fields_of self.now) item.kind.kind < level_cap_of item.kind.kind }
-        requires speed_from { 1 ≤ speed }
-        requires speed_to { speed ≤ TOP_SPEED }
-        ensures { item_of self.now.at result ≡ started speed second (fields_of self.now) (item_of self.now.at item) }
-    {
-        BuildingItem {
-            number: item.number,
-            kind: item.kind,
-            level: self.level(item.kind) + 1,
-            second: second + self.next_seconds(item.kind, speed),
-        }
     }
 }

@@ -1,18 +1,7 @@
-ghost use Rattle.std.specs.Prelude.{◌≡◌, ◌<◌};
-ghost use Rattle.catalog.specs.Kinds.{place_in};
-ghost use Rattle.catalog.specs.declared.classes.TheConstants.{BUILDINGS};
-
+use crate::places::place_of;
 use crate::planet::Planet;
-use catalog::{Building, Kind};
+use catalog::Building;
 use rates::{Hourly, Resources, Works, hourly, storage_of};
-
-/// The place of a building in the order of `catalog::BUILDINGS`, counted from 0.
-pub fn place_of(building: Building) -> usize
-    ensures value { result ≡ place_in BUILDINGS building.kind }
-    ensures within { result < 11 }
-{
-    usize::from(building.kind.number() - Kind::MetalMine.number())
-}
 
 /// The place of the satellites in the order of `catalog::UNIT_KINDS`.
 const SATELLITE: usize = 13;

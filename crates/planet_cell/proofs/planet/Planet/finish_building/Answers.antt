@@ -1,9 +1,8 @@
-use Rattle.std.proofs.Common.{rules, ◌≡◌, arith, subst, sym, refl}
+use Rattle.std.proofs.Common.{arith, subst, sym, refl}
 use Rattle.planet_cell.proofs.Queues.{caps_raised}
 use Rattle.planet_cell.proofs.Starts.{finishes}
 use Rattle.planet_cell.specs.Planet.{fields_of}
 use Rattle.planet_cell.specs.Bounds.{AreWithinCaps}
-use Rattle.planet_cell.specs.declared.building_item.BuildingItem.{BuildingItem}
 use Rattle.planet_cell.proofs.planet.Planet.finish_building.Goals as goal
 
 pub invariant_of-self-clause-within_levels : goal.invariant_of-self-clause-within_levels

@@ -1,4 +1,4 @@
-use Rattle.std.proofs.Common.{rules, ◌≡◌, ap, ◌∙◌, sym}
+use Rattle.std.proofs.Common.{ap, ◌∙◌, sym}
 use Rattle.planet_cell.proofs.Queues.{caps_started, first_below}
 use Rattle.planet_cell.proofs.Starts.{starts_none, starts_now}
 use Rattle.planet_cell.specs.Planet.{fields_of}

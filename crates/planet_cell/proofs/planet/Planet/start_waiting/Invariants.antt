@@ -7,7 +7,7 @@ abbrev pub invariant-waiting : goal.invariant-waiting
 invariant-waiting l =
     record {
       works : starts_first l.speed l.second (fields_of l.self) (items_of l.self)
-        ≡ starts_first l.speed l.second (fields_of l.initial.self) (items_of l.initial.self);
+          ≡ starts_first l.speed l.second (fields_of l.initial.self) (items_of l.initial.self);
       at : l.self.at ≡ l.initial.self.at;
     }
 
