@@ -14,6 +14,7 @@ use Rattle.tick_model.specs.Standing.{last_moment, last_number}
 use Rattle.tick_model.specs.Universe.{Universe}
 use Rattle.tick_model.specs.World.{reply as reply_of}
 use Rattle.lazy.specs.declared.universe.LazyUniverse.{LazyUniverse}
+use Rattle.lazy.specs.declared.universe.Prepared.{Prepared}
 
 -- A universe keeps a legal history from a base: it has the base's rules and directory, and the number and moment of the last
 -- entry; it holds every cell of the directory, each at its last touch, as the universe that ticks had it there.
@@ -47,3 +48,7 @@ pub record Continues (base : Universe) (history : List Entry) (new : LazyUnivers
 abbrev pub Asks : LazyUniverse → LazyUniverse → Player → Request → ℕ → Reply → Type 0
 Asks old new player req reading reply =
     (base : Universe) (history : List Entry) → Keeps base history old → Continues base history new player req reading reply
+
+-- A request was worked out beside a universe.
+abbrev pub IsPrepared : LazyUniverse → Player → Request → ℕ → Prepared → Type 0
+IsPrepared old player req reading prepared = ⊥

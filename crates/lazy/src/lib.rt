@@ -5,4 +5,4 @@ mod planning;
 mod universe;
 
 pub use planning::{Plan, prepare};
-pub use universe::LazyUniverse;
+pub use universe::{LazyUniverse, Prepared};
