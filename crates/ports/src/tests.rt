@@ -134,13 +134,16 @@ fn the_adapters_count_the_faults_of_std(rt: HostRuntime) {
     assert_eq!(rt; sink.fault_count(), 1);
 }
 
-// An empty piece, so that nothing stands among what the tests print.
+// What standard input gives is not known, so it is read into no room.
 #[test]
-fn the_adapters_take_the_streams_of_the_runtime(rt: HostRuntime) {
-    let source = ReadSource::new(rt.stdin());
+fn the_adapters_move_the_bytes_of_the_runtime(rt: HostRuntime) {
+    let mut source = ReadSource::new(rt.stdin());
+    assert_eq!(rt; source.read(&mut []), Ok(0));
     assert_eq!(rt; source.fault_count(), 0);
     let mut sink = WriteSink::new(rt.stdout());
+    assert_eq!(rt; write_piece(&mut sink, b"one line\n"), Ok(9));
     assert_eq!(rt; write_piece(&mut sink, b""), Ok(0));
+    assert_eq!(rt; sink.fault_count(), 0);
 }
 
 #[test]
