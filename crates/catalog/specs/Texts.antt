@@ -7,7 +7,7 @@ use Rattle.catalog.specs.declared.amounts.Amounts.{Amounts}
 use Rattle.catalog.specs.declared.kind.Kind.{Kind}
 use Rattle.catalog.specs.declared.ships.TheConstants.{SHIPS}
 
--- amounts are written M C D
+-- amounts are written as metal, crystal and deuterium, with one space between them
 abbrev pub amounts_text : Amounts → List ℕ
 amounts_text amounts = decimal amounts.m ++ codes " " ++ decimal amounts.c ++ codes " " ++ decimal amounts.d
 

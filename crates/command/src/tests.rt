@@ -130,7 +130,8 @@ fn refusals_take_a_number_and_bad_lines_take_none(rt: HostRuntime) -> Result<(),
 
 #[test]
 fn a_reading_that_goes_back_keeps_the_moment(rt: HostRuntime) -> Result<(), Fail> {
-    let (_, sink) = answers_to(rt.alloc(), b"@100 1 planet 1:1:1\n@50 1 planet 1:1:1\n")?;
+    let (status, sink) = answers_to(rt.alloc(), b"@100 1 planet 1:1:1\n@50 1 planet 1:1:1\n")?;
+    assert_eq!(rt; status, DONE);
     assert!(rt; sink.written().starts_with(b"ok 1 100\n"));
     let planet =
         b".\nok 2 100\nplanet 1:1:1 1 40 163 0\nstock 500 500 0\nhourly 20 10 0\nlimit 10000 10000 10000\nenergy 0 0\ndebris 0 0\n.\n";
@@ -263,21 +264,22 @@ fn answers_at<'a>(
     alloc: Global,
     script: &[u8],
     readings: &'a [u64],
-) -> Result<(MemorySink<'static>, MemoryClock<'a>), AllocError> {
+) -> Result<(u8, MemorySink<'static>, MemoryClock<'a>), AllocError> {
     let input = text_of(alloc, script)?;
     let words = vec![in alloc; String::from_str(alloc, "trial")?]?;
     let mut source = MemorySource::new(&input, &[]);
     let mut sink = MemorySink::new(alloc, &[]);
     let mut clock = MemoryClock::new(readings);
-    let _ = run(alloc, &words, &mut source, &mut sink, &mut clock);
-    Ok((sink, clock))
+    let status = run(alloc, &words, &mut source, &mut sink, &mut clock);
+    Ok((status, sink, clock))
 }
 
 #[test]
 fn a_line_without_a_reading_reads_the_clock_once(rt: HostRuntime) -> Result<(), Fail> {
     let script =
         b"2 planet 1:1:1\nplant\n@5 2 planet 1:1:1\n1 account\n3 planet 1:1:1\r\n2 planet 9:9:9\n";
-    let (sink, clock) = answers_at(rt.alloc(), script, &[3600, 3500, 3700])?;
+    let (status, sink, clock) = answers_at(rt.alloc(), script, &[3600, 3500, 3700])?;
+    assert_eq!(rt; status, DONE);
     let wanted = b"no 1 3600 1\nbad 1\nno 2 3600 1\nbad 1\nno 3 3600 1\nno 4 3700 1\n";
     assert_eq!(rt; sink.written(), wanted.as_slice());
     assert_eq!(rt; clock.count, 3);
@@ -347,7 +349,8 @@ fn a_sink_that_fails_at_any_write_has_5(rt: HostRuntime) -> Result<(), Fail> {
 fn bytes_come_and_go_in_pieces_of_any_size(rt: HostRuntime) -> Result<(), Fail> {
     let alloc = rt.alloc();
     let input = text_of(alloc, b"@1 1 planet 1:1:1\nx\n@2 2 planet 1:1:1\n")?;
-    let (_, whole) = tried(alloc, &input, usize::MAX, &[], &[])?;
+    let (status, whole) = tried(alloc, &input, usize::MAX, &[], &[])?;
+    assert_eq!(rt; status, DONE);
     for most in 1..20 {
         let words = vec![in alloc; String::from_str(alloc, "trial")?]?;
         let mut source = MemorySource::new(&input, &[]).in_pieces(most);

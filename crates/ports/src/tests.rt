@@ -3,9 +3,11 @@ use crate::{
     Clock, Failed, LATEST, MemoryClock, MemorySink, MemorySource, ReadSource, Sink, Source,
     SystemClock, WriteSink,
 };
+use std::cell::Cell;
 use std::io::{ErrorKind, Read, Write};
 use std::test::Fail;
-use std::{format, io};
+use std::time::Duration;
+use std::{format, io, rt};
 
 // The first second of the year 2020.
 const START_OF_2020: u64 = 1_577_836_800;
@@ -134,13 +136,16 @@ fn the_adapters_count_the_faults_of_std(rt: HostRuntime) {
     assert_eq!(rt; sink.fault_count(), 1);
 }
 
-// An empty piece, so that nothing stands among what the tests print.
+// What standard input gives is not known, so it is read into no room.
 #[test]
-fn the_adapters_take_the_streams_of_the_runtime(rt: HostRuntime) {
-    let source = ReadSource::new(rt.stdin());
+fn the_adapters_move_the_bytes_of_the_runtime(rt: HostRuntime) {
+    let mut source = ReadSource::new(rt.stdin());
+    assert_eq!(rt; source.read(&mut []), Ok(0));
     assert_eq!(rt; source.fault_count(), 0);
     let mut sink = WriteSink::new(rt.stdout());
+    assert_eq!(rt; write_piece(&mut sink, b"one line\n"), Ok(9));
     assert_eq!(rt; write_piece(&mut sink, b""), Ok(0));
+    assert_eq!(rt; sink.fault_count(), 0);
 }
 
 #[test]
@@ -149,6 +154,45 @@ fn the_system_clock_tells_a_second_after_2020(rt: HostRuntime) {
     let reading = next_reading(&mut clock);
     assert!(rt; reading > START_OF_2020);
     assert!(rt; first_of_twin(&clock) >= reading);
+}
+
+// A system whose time in seconds is set. It gives none if none is set.
+#[derive(Drop)]
+struct SetTime {
+    seconds: Cell<Option<u64>>,
+}
+
+impl rt::Clock for SetTime {
+    fn monotonic(&self) -> io::Result<Duration> {
+        self.since_1970()
+    }
+
+    fn since_1970(&self) -> io::Result<Duration> {
+        match self.seconds.get() {
+            Some(seconds) => Ok(Duration::from_secs(seconds)),
+            None => Err(io::Error::from(ErrorKind::Unsupported)),
+        }
+    }
+}
+
+#[test]
+fn the_system_clock_repeats_its_last_reading_if_the_system_gives_no_time(rt: HostRuntime) {
+    let system = SetTime {
+        seconds: Cell::new(None),
+    };
+    let mut clock = SystemClock::new(&system);
+    for (time, want) in [
+        (None, 0),
+        (Some(7), 7),
+        (None, 7),
+        (Some(5), 5),
+        (Some(LATEST + 1), LATEST),
+        (None, LATEST),
+    ] {
+        system.seconds.set(time);
+        assert_eq!(rt; next_reading(&mut clock), want);
+    }
+    assert_eq!(rt; first_of_twin(&clock), 0);
 }
 
 #[test]

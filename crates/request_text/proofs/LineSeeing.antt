@@ -9,6 +9,7 @@ use Rattle.base_text.proofs.Splitting.{lines-join, lines-last, parts-one}
 use Rattle.request_text.specs.Feeds.{IsFirstFeed}
 use Rattle.request_text.specs.LineReading.{answered_line, kept, HasEnded, IsFront, Sees, Follows, Stays, Tells, advance, ahead, taken}
 use Rattle.request_text.specs.LineSteps.{Answers}
+use Rattle.request_text.specs.declared.line_reader.TheConstants.{LONGEST_LINE, MOST_BEFORE_FEED}
 use Rattle.request_text.specs.declared.line_reader.LineReader.{LineReader}
 use Rattle.request_text.specs.declared.line_reader.Stage.TheVariants.{Open}
 use Rattle.request_text.specs.declared.line_reader.Line.{Line}
@@ -39,7 +40,7 @@ lacks-front true front passed = passed.1
 lacks-front false front passed = subst (Lacks 10) (sym passed) (lacks-nil 10)
 
 -- a line with a long front is long
-long-line : (long : Bool) (front line : List ℕ) (count : ℕ) → IsFront long front → count ≡ length (strip_carriage_return line) → (long ≡ true) ⊎ (400 < count) → 400 < length (strip_carriage_return (front ++ line))
+long-line : (long : Bool) (front line : List ℕ) (count : ℕ) → IsFront long front → count ≡ length (strip_carriage_return line) → (long ≡ true) ⊎ (LONGEST_LINE < count) → LONGEST_LINE < length (strip_carriage_return (front ++ line))
 long-line true front line count passed e h =
     let one = stripped (front ++ line) in
     let all = length-append front line in
@@ -125,7 +126,7 @@ follows-last old new text seen free some none short over =
     }
 
 -- a line that is known to be long, or that has so many bytes
-long-last : (long : Bool) (front line : List ℕ) → IsFront long front → (long ≡ true) ⊎ (400 < length line) → 400 < length (front ++ line)
+long-last : (long : Bool) (front line : List ℕ) → IsFront long front → (long ≡ true) ⊎ (LONGEST_LINE < length line) → LONGEST_LINE < length (front ++ line)
 long-last true front line passed h = let all = length-append front line in omega (arith, all, passed.0)
 long-last false front line passed (inl h) = absurd (cc h)
 long-last false front line passed (inr h) = rw passed (omega (arith, h))
@@ -140,7 +141,7 @@ tells-last old new count (Text n) free many some answers behind short over =
     subst (Follows new [] text) line (follows-last old new text seen free much (behind ∙ drop_all count (kept old) (omega arith)) short over)
 tells-last old new count Long free many some answers behind short over =
     λ text seen.
-    let much = long-last old.long seen.front (kept old) seen.passed (subst (λ n. (old.long ≡ true) ⊎ (400 < n)) many answers) in (
+    let much = long-last old.long seen.front (kept old) seen.passed (subst (λ n. (old.long ≡ true) ⊎ (LONGEST_LINE < n)) many answers) in (
       seen.front ++ kept old,
       much,
       follows-last old new text seen free (omega (arith, much)) (behind ∙ drop_all count (kept old) (omega arith)) short over,
@@ -150,12 +151,12 @@ tells-last old new count Fault free many some answers behind short over = absurd
 tells-last old new count Spent free many some answers behind short over = absurd answers
 
 -- a long line of which more was passed over
-long-more : (long : Bool) (front line : List ℕ) → IsFront long front → (long ≡ true) ⊎ (401 < length line) → 401 < length (front ++ line)
+long-more : (long : Bool) (front line : List ℕ) → IsFront long front → (long ≡ true) ⊎ (MOST_BEFORE_FEED < length line) → MOST_BEFORE_FEED < length (front ++ line)
 long-more true front line passed h = let all = length-append front line in omega (arith, all, passed.0)
 long-more false front line passed (inl h) = absurd (cc h)
 long-more false front line passed (inr h) = rw passed (omega (arith, h))
 
-pub stays-long : (old new : LineReader) → Lacks 10 (kept old) → (old.long ≡ true) ⊎ (401 < length (kept old)) → old.stage ≡ new.stage → kept new ≡ [] → new.long ≡ true → (left : List ℕ) → Stays old left new left
+pub stays-long : (old new : LineReader) → Lacks 10 (kept old) → (old.long ≡ true) ⊎ (MOST_BEFORE_FEED < length (kept old)) → old.stage ≡ new.stage → kept new ≡ [] → new.long ≡ true → (left : List ℕ) → Stays old left new left
 stays-long old new free h stage none long left =
     λ text seen.
     let here : IsFront true (seen.front ++ kept old) = (long-more old.long seen.front (kept old) seen.passed h, lacks-append 10 seen.front (kept old) (lacks-front old.long seen.front seen.passed) free) in

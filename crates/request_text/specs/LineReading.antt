@@ -4,7 +4,7 @@ use Rattle.std.specs.Prelude.{◌≡◌, ℕ, ◌+◌, ◌-◌, ◌<◌, ◌≤�
 use Rattle.std.specs.Str.Lines.{lines}
 use Rattle.base_text.specs.Parts.{Lacks}
 use Rattle.request_text.specs.Windows.{items}
-use Rattle.request_text.specs.declared.line_reader.TheConstants.{LONGEST_LINE, MOST_TAKEN}
+use Rattle.request_text.specs.declared.line_reader.TheConstants.{LONGEST_LINE, MOST_BEFORE_FEED, MOST_TAKEN}
 use Rattle.request_text.specs.declared.line_reader.LineReader.{LineReader}
 use Rattle.request_text.specs.declared.line_reader.Stage.{Stage}
 use Rattle.request_text.specs.declared.line_reader.Stage.TheVariants.{Open, Last, Over, Exhausted}
@@ -37,11 +37,11 @@ HasEnded Exhausted = ⊥
 -- the front of a line that is known to be long, and nothing else
 abbrev pub IsFront : Bool → List ℕ → Type 0
 IsFront false front = front ≡ []
-IsFront true front = (401 < length front) × Lacks 10 front
+IsFront true front = (MOST_BEFORE_FEED < length front) × Lacks 10 front
 
 -- What the reader still has to tell, together with what the source has left, is this text. While a long line is
--- passed over, its front is known no more: any front of more than 401 bytes without a line feed will do. (A line
--- of 400 bytes takes 401 before its line feed if it has a carriage return there.)
+-- passed over, its front is known no more: any front without a line feed will do that has more bytes than a text
+-- may have before its line feed.
 pub record Sees (reader : LineReader) (left text : List ℕ) : Type 0 where
   pub front : List ℕ
   pub passed : IsFront reader.long front

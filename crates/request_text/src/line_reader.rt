@@ -3,7 +3,7 @@ ghost use Rattle.std.specs.Prelude.{◌≡◌, ℕ, ◌+◌, ◌<◌, ◌≤◌,
 ghost use Rattle.base_text.specs.Parts.{Lacks};
 ghost use Rattle.ports.specs.Causes.{Rose};
 ghost use Rattle.request_text.specs.Windows.{items};
-ghost use Rattle.request_text.specs.declared.line_reader.TheConstants.{LONGEST_LINE, MOST_TAKEN};
+ghost use Rattle.request_text.specs.declared.line_reader.TheConstants.{LONGEST_LINE, MOST_BEFORE_FEED, MOST_TAKEN};
 ghost use Rattle.request_text.specs.declared.line_reader.Stage.TheVariants.{Last, Over, Exhausted};
 
 mod feeds;
@@ -297,7 +297,7 @@ impl LineReader {
         requires reads { IsReading self.old }
         requires unbroken { Lacks 10 (kept self.old) }
         ensures stays { (left : List ℕ) → Stays self.old left self.new left }
-        ensures short { length (kept self.new) ≤ 401 }
+        ensures short { length (kept self.new) ≤ MOST_BEFORE_FEED }
         ensures unbroken { Lacks 10 (kept self.new) }
         ensures reads { IsReading self.new }
         ensures ahead { ahead self.new ≤ ahead self.old }
@@ -313,7 +313,7 @@ impl LineReader {
     // Reads behind the bytes that are kept, and notes if no more may be taken.
     fn refill<S: Source>(&mut self, src: &mut S) -> Refilled
         requires reads { IsReading self.old }
-        requires short { length (kept self.old) ≤ 401 }
+        requires short { length (kept self.old) ≤ MOST_BEFORE_FEED }
         requires unbroken { Lacks 10 (kept self.old) }
         ensures came { Refills self.old self.new (S.left src.new) (S.faults src.old) (S.faults src.new) result }
         ensures stays { Known (S.left src.old) (S.left src.new) (λ left more. Stays self.old left self.new more) }
