@@ -1,4 +1,5 @@
 ghost use Rattle.std.specs.Prelude.{◌≡◌, List, [], ◌∷◌, ◌++◌, length, IfOk, OnOk, OnErr};
+ghost use Rattle.base_ids.specs.Cells.{same_cell};
 ghost use Rattle.base_ids.specs.declared.cell_id.CellId.{CellId};
 ghost use Rattle.closure.specs.Lists.{IsUnion, has, with_cell};
 
@@ -46,7 +47,7 @@ impl Ids {
     pub fn contains(&self, id: CellId) -> bool
         ensures { result ≡ has self.now id }
     {
-        self.items.iter().any(|other| *other == id)
+        self.items.iter().any(|other| is_same(id, *other))
     }
 
     /// Appends the cell. It fails only if memory runs out, and then appends nothing.
@@ -79,4 +80,11 @@ impl Ids {
         }
         Ok(self)
     }
+}
+
+/// Whether both are the same cell.
+fn is_same(one: CellId, other: CellId) -> bool
+    ensures { result ≡ same_cell one other }
+{
+    one == other
 }
