@@ -2,3 +2,5 @@ pub mod Orders
 pub mod Held
 pub mod Due
 pub mod Applying
+pub mod Sights
+pub mod Naming
