@@ -4,3 +4,4 @@ pub mod Due
 pub mod Applying
 pub mod Sights
 pub mod Naming
+pub mod Coming
