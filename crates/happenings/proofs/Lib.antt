@@ -4,3 +4,4 @@ pub mod Putting
 pub mod Copying
 pub mod Standing
 pub mod Acting
+pub mod Owing
