@@ -8,8 +8,7 @@ use request_text::Request;
 use std::alloc::{AllocError, Global};
 use std::test::Fail;
 use tick_model::{
-    Debris, LEVEL_CAP, NO_FIELDS, NO_PLANET, NO_PLAYER, NOT_BUILT, NOT_YOURS, POOR, QUEUE_FULL,
-    REQUIRES, Rules,
+    Debris, NO_PLANET, NO_PLAYER, NOT_BUILT, NOT_YOURS, POOR, QUEUE_FULL, REQUIRES, Rules,
 };
 
 const RULES: Rules = Rules { seed: 7, speed: 1 };
@@ -104,21 +103,11 @@ fn an_order_is_paid_and_told(rt: HostRuntime) -> Result<(), Fail> {
 }
 
 #[test]
-fn each_refusal_of_an_order(rt: HostRuntime) -> Result<(), Fail> {
+fn refusals_of_an_order(rt: HostRuntime) -> Result<(), Fail> {
     let alloc = rt.alloc();
     let mut parts = own(alloc)?;
     assert_eq!(rt; build(alloc, &mut parts, Kind::Nanite)?.code, REQUIRES);
     assert_eq!(rt; build(alloc, &mut parts, Kind::MetalStore)?.code, POOR);
-    let mut small = planet(alloc);
-    small.fields = 1;
-    small.levels = [0, 0, 0, 0, 0, 16, 0, 0, 0, 0, 0];
-    parts.from = Some(small);
-    assert_eq!(rt;
-        build(alloc, &mut parts, Kind::CrystalStore)?.code,
-        LEVEL_CAP
-    );
-    assert_eq!(rt; build(alloc, &mut parts, Kind::MetalMine)?.code, NO_FIELDS);
-    parts.from = Some(planet(alloc));
     'orders: for _ in 0..5 {
         assert_eq!(rt; build(alloc, &mut parts, Kind::MetalMine)?.code, 0);
     }
