@@ -5,3 +5,4 @@ pub mod Copying
 pub mod Standing
 pub mod Acting
 pub mod Owing
+pub mod Gains

@@ -5,3 +5,4 @@ pub mod Applying
 pub mod Sights
 pub mod Naming
 pub mod Coming
+pub mod Gaining

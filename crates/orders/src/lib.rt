@@ -8,3 +8,6 @@ mod parts;
 pub use acting::{Acted, act};
 pub use lines::{account_lines, planet_lines};
 pub use parts::Parts;
+
+#[cfg(test)]
+mod tests;
