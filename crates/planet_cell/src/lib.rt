@@ -9,3 +9,4 @@ mod reading;
 pub use building_item::{BuildingItem, Placed};
 pub use growing::seconds_add_up;
 pub use planet::Planet;
+pub use reading::place_of;
