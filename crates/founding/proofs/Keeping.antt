@@ -91,9 +91,9 @@ same_order a b = is_eq (player_order a b)
 player_laws : IsEquivalence same_order
 unfolding same_order
 player_laws = record {
-  reflexive = λ a. grind (arith, nat_tests);
+  refl = λ a. grind (arith, nat_tests);
   symm = λ a b. grind (arith, nat_tests);
-  trans = λ a b c first second. grind (arith, nat_tests);
+  congr = λ a b c same. grind (arith, nat_tests);
 }
 
 set-looked_up : (owner : Player) (w : Vec Coord Global) (entries : List (Player × Vec Coord Global)) (q : Player) → IsSome (lookup (is_at (player_order owner)) entries)

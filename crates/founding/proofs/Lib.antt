@@ -9,4 +9,6 @@ pub mod Once
 pub mod Rising
 pub mod Places
 pub mod Keeping
+pub mod Judging
+pub mod Ending
 pub mod Hearing

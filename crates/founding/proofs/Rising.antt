@@ -126,7 +126,7 @@ begun-rising : (last : Drafted) (good : List (List ℕ)) → Grows None good (So
 begun-rising last [] same = absurd (cc same)
 begun-rising last (line ∷ later) (next, says, grows) = grows-rising next last later (subst IsRising (sym says.makes) (record { players = tt; planets = tt })) grows
 
-all-map : {A B : Type 0} (P : B → Type 0) (f : A → B) (xs : List A) → AllByRecursion (λ x. P (f x)) xs → AllByRecursion P (map f xs)
+pub all-map : {A B : Type 0} (P : B → Type 0) (f : A → B) (xs : List A) → AllByRecursion (λ x. P (f x)) xs → AllByRecursion P (map f xs)
 all-map P f [] all = tt
 all-map P f (x ∷ xs) (first, later) = (first, all-map P f xs later)
 

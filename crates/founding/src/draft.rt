@@ -1,8 +1,8 @@
-ghost use Rattle.std.specs.Prelude.{◌≡◌, ◌≤◌, length, IsTrue, ◌↔◌};
+ghost use Rattle.std.specs.Prelude.{◌≡◌, ◌≤◌, length, IsTrue, ◌↔◌, MatchOption, None, Some};
 ghost use Rattle.base_bytes.specs.Base.{universe_of};
 ghost use Rattle.base_bytes.specs.Sound.{IsSound};
-ghost use Rattle.founding.specs.DraftMaps.{draft_of, IsKept};
-ghost use Rattle.founding.specs.Drafts.{begun, Adds, Gives, MayName, MayStand, Names, Raises, Stocks};
+ghost use Rattle.founding.specs.DraftMaps.{draft_of, planet_of, IsKept};
+ghost use Rattle.founding.specs.Drafts.{begun, planet_at, Adds, Gives, MayName, MayStand, Names, Raises, Stocks};
 ghost use Rattle.founding.specs.Founded.{founded};
 ghost use Rattle.founding.specs.Steps.{Steps};
 ghost use Rattle.request_text.specs.declared.line_reader.TheConstants.{LONGEST_LINE};
@@ -158,13 +158,25 @@ impl Draft {
         }
     }
 
+    // The planet that stands there, as lines have made it.
+    fn sketch_at(&self, at: Coord) -> Option<Sketch>
+        requires { IsKept self.now }
+        ensures { MatchOption result
+            (planet_at at (draft_of self.now).planets ≡ None)
+            (λ sketch. (planet_at at (draft_of self.now).planets ≡ Some (planet_of sketch)) × (sketch.at ≡ at)) }
+    {
+        self.planets.get(&at).copied()
+    }
+
     // Gives a planet the stock that a line says.
     fn say_stock(&mut self, stock: NewStock) -> Result<(), LineFault>
         requires { IsKept self.old }
         ensures steps { Steps (λ old new. Stocks old stock new) self.old self.new result }
         ensures kept { IsKept self.new }
     {
-        let sketch = *self.planets.get(&stock.at).ok_or(LineFault::Bad)?;
+        let Some(sketch) = self.sketch_at(stock.at) else {
+            return Err(LineFault::Bad);
+        };
         if sketch.stocked {
             return Err(LineFault::Bad);
         }
@@ -178,9 +190,10 @@ impl Draft {
         ensures steps { Steps (λ old new. Raises old level new) self.old self.new result }
         ensures kept { IsKept self.new }
     {
-        let sketch = *self.planets.get(&level.at).ok_or(LineFault::Bad)?;
-        let used = sketch.used_fields() + u16::from(level.level);
-        if sketch.level(level.building) > 0 || used > sketch.fields {
+        let Some(sketch) = self.sketch_at(level.at) else {
+            return Err(LineFault::Bad);
+        };
+        if !sketch.may_raise(level) {
             return Err(LineFault::Bad);
         }
         put_back(&mut self.planets, sketch.raised_to(level));

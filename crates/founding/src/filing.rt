@@ -1,6 +1,6 @@
 ghost use Rattle.std.specs.Prelude.{◌≡◌, ◌≤◌, ◌<◌, [], length, map, true, vec_capacity, AllPairs, IfSome, IsSome};
 ghost use Rattle.std.specs.BTreeMap.{get, is_at, values};
-ghost use Rattle.std.specs.List.{AllByRecursion};
+ghost use Rattle.std.specs.List.{AllByRecursion, position};
 ghost use Rattle.std.specs.Map.{set_value};
 ghost use Rattle.base_ids.specs.Order.{coord_before, player_before};
 ghost use Rattle.founding.specs.DraftMaps.{place_order, player_order};
@@ -31,8 +31,22 @@ fn insert_place(places: &mut Vec<Coord>, at: Coord)
     ensures items { places.new.items ≡ put coord_before at places.old.items }
     ensures capacity { vec_capacity places.old ≤ vec_capacity places.new }
 {
-    let later = places.iter().position(|place| at < *place);
-    places.insert(later.unwrap_or(places.len()), at).unwrap();
+    let index = first_behind(places, at).unwrap_or(places.len());
+    places.insert(index, at).unwrap();
+}
+
+// The index of the first of the places that comes behind a place.
+fn first_behind(places: &[Coord], at: Coord) -> Option<usize>
+    ensures { result ≡ position (coord_before at) places.now }
+{
+    places.iter().position(|place| is_before(at, *place))
+}
+
+// Whether a place comes before another one.
+fn is_before(at: Coord, other: Coord) -> bool
+    ensures { result ≡ coord_before at other }
+{
+    at < other
 }
 
 /// Puts a planet in place of the one that stands where it does.

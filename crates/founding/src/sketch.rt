@@ -30,7 +30,7 @@ pub struct Sketch {
 }
 
 impl Sketch {
-    ghost use Rattle.std.specs.Prelude.{◌≡◌, []};
+    ghost use Rattle.std.specs.Prelude.{◌≡◌, ◌≤◌, ◌+◌, [], IsTrue, ◌↔◌};
     ghost use Rattle.founding.specs.DraftMaps.{own_of, planet_of};
     ghost use Rattle.founding.specs.Drafts.{first_planet, raised_to, stocked_with};
     ghost use Rattle.planet_cell.specs.Planet.{fields_of};
@@ -77,16 +77,25 @@ impl Sketch {
         self
     }
 
-    /// The level that a line has said of a building, or 0.
+    /// Whether a line may say the level: none has said one of the building, and the planet has fields for all its levels.
+    pub fn may_raise(&self, level: NewLevel) -> bool
+        ensures { IsTrue result ↔ (level_of (own_of self.now) level.building.kind ≡ 0)
+            × (used_fields (own_of self.now) + level.level ≤ self.now.fields) }
+    {
+        let used = u32::from(self.used_fields()) + u32::from(level.level);
+        self.level(level.building) == 0 && used <= u32::from(self.fields)
+    }
+
+    // The level that a line has said of a building, or 0.
     #[tactic(auto, unfolding(tick_model::specs::Production::level_of))]
-    pub fn level(&self, building: Building) -> u8
+    fn level(&self, building: Building) -> u8
         ensures { result ≡ level_of (own_of self.now) building.kind }
     {
         self.levels[place_of(building)]
     }
 
-    /// How many fields the levels use, one each.
-    pub fn used_fields(&self) -> u16
+    // How many fields the levels use, one each.
+    fn used_fields(&self) -> u16
         ensures { result ≡ used_fields (own_of self.now) }
     {
         let mut used = 0;
