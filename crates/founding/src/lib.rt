@@ -3,15 +3,14 @@
 
 mod draft;
 mod fault;
+mod filing;
 mod heading;
 mod laws;
-mod new_planet;
+mod named;
 mod read_lines;
 mod read_text;
+mod sketch;
 
 pub use fault::FoundingFault;
 pub use laws::found_once;
 pub use read_text::read;
-
-#[cfg(test)]
-mod tests;

@@ -1,6 +1,6 @@
 use Rattle.std.proofs.Common.{◌≡◌, ◌+◌, ◌≤◌, ◌++◌, length, vec_capacity}
 use Rattle.std.specs.BTreeMap.{values}
-use Rattle.founding.proofs.draft.list_planets.Given as goal
+use Rattle.strict_founding.proofs.draft.list_planets.Given as goal
 
 abbrev pub invariant-planets : goal.invariant-planets
 invariant-planets l = record {

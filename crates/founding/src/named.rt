@@ -1,10 +1,10 @@
 ghost use Rattle.std.specs.Prelude.{◌≤◌, ◌≤ℤ◌};
+ghost use Rattle.catalog.specs.Levels.{level_cap_of};
+ghost use Rattle.founding.specs.declared.named.TheConstants.{MOST_FIELDS};
 ghost use Rattle.rates.specs.declared.works.TheConstants.{COLDEST, HOTTEST};
-ghost use Rattle.founding.specs.declared.new_planet.TheConstants.{MOST_FIELDS};
 
 use base_ids::{Coord, Player};
-use rates::{GRAINS, Resources};
-use strict_model::Planet;
+use catalog::{Amounts, Building};
 
 /// The most fields of a planet.
 pub const MOST_FIELDS: u16 = 400;
@@ -25,25 +25,19 @@ pub struct NewPlanet {
     pub ghost fields_to: { fields ≤ MOST_FIELDS },
 }
 
-impl NewPlanet {
-    ghost use Rattle.std.specs.Prelude.{◌≡◌};
-    ghost use Rattle.strict_model.specs.Strict.{fields_of};
-    ghost use Rattle.founding.specs.Drafts.{first_fields};
+/// What the line `stock C METAL CRYSTAL DEUTERIUM` says: a place, and the units that the planet there holds.
+#[derive(Clone, Copy, Debug)]
+pub struct NewStock {
+    pub at: Coord,
+    pub amounts: Amounts,
+}
 
-    /// The planet as it is founded.
-    pub fn planet(self) -> Planet
-        ensures { fields_of result ≡ first_fields self }
-    {
-        Planet {
-            at: self.at,
-            owner: self.owner,
-            temperature: self.temperature,
-            fields: self.fields,
-            stock: Resources {
-                metal: FIRST_UNITS * GRAINS,
-                crystal: FIRST_UNITS * GRAINS,
-                deuterium: 0,
-            },
-        }
-    }
+/// What the line `level C BUILDING L` says: a place, a building, and its level on the planet there.
+#[derive(Clone, Copy, Debug)]
+pub struct NewLevel {
+    pub at: Coord,
+    pub building: Building,
+    pub level: u8,
+    pub ghost level_from: { 1 ≤ level },
+    pub ghost level_to: { level ≤ level_cap_of building.kind },
 }

@@ -1,6 +1,6 @@
 use Rattle.std.proofs.Common.{◌≡◌, ◌+◌, ◌≤◌, ◌++◌, length, vec_capacity}
 use Rattle.std.specs.BTreeMap.{keys}
-use Rattle.founding.proofs.draft.list_players.Given as goal
+use Rattle.strict_founding.proofs.draft.list_players.Given as goal
 
 abbrev pub invariant-players : goal.invariant-players
 invariant-players l = record {

@@ -4,11 +4,11 @@ use Rattle.std.proofs.lemmas.List.{length-map}
 use Rattle.std.proofs.lemmas.Map.Entries.{length-values_of}
 use Rattle.std.specs.Map.{values_of}
 use Rattle.strict_model.specs.Strict.{fields_of}
-use Rattle.founding.specs.Drafts.{planets_of, MayStand}
-use Rattle.founding.specs.DraftMaps.{draft_of}
-use Rattle.founding.proofs.Finding.{owned_found, stranger_refused, taken_refused}
-use Rattle.founding.proofs.draft.Draft.owned_before.Goals.{then-len-ge-MOST_PLANETS-via-then-len-ge-MOST_PLANETS, then-len-ge-MOST_PLANETS-via-else-len-ge-MOST_PLANETS+then-contains_key}
-use Rattle.founding.proofs.draft.Draft.owned_before.Goals as goal
+use Rattle.strict_founding.specs.Drafts.{planets_of, MayStand}
+use Rattle.strict_founding.specs.DraftMaps.{draft_of}
+use Rattle.strict_founding.proofs.Finding.{owned_found, stranger_refused, taken_refused}
+use Rattle.strict_founding.proofs.draft.Draft.owned_before.Goals.{then-len-ge-MOST_PLANETS-via-then-len-ge-MOST_PLANETS, then-len-ge-MOST_PLANETS-via-else-len-ge-MOST_PLANETS+then-contains_key}
+use Rattle.strict_founding.proofs.draft.Draft.owned_before.Goals as goal
 
 pub returns-then-len-ge-MOST_PLANETS : goal.returns-then-len-ge-MOST_PLANETS
 returns-then-len-ge-MOST_PLANETS c =
