@@ -2,3 +2,4 @@ pub mod Orders
 pub mod Held
 pub mod Due
 pub mod Applying
+pub mod Merging

@@ -4,6 +4,7 @@
 mod applying;
 mod due;
 mod held;
+mod merging;
 
 pub use applying::apply;
 pub use due::Due;
