@@ -3,3 +3,5 @@ pub mod Held
 pub mod Due
 pub mod Applying
 pub mod Merging
+pub mod Sights
+pub mod Naming

@@ -5,6 +5,7 @@ mod applying;
 mod due;
 mod held;
 mod merging;
+mod looking;
 
 pub use applying::apply;
 pub use due::Due;
