@@ -79,6 +79,9 @@ impl LazyUniverse {
         ensures reply { result ≡ prepared.reply }
         ensures number { self.new.number ≡ self.old.number + 1 }
     {
+        self.cells.put_all(prepared.cells);
+        self.moment = prepared.moment;
+        self.number = prepared.reply.number;
         prepared.reply
     }
 
