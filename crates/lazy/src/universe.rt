@@ -9,10 +9,10 @@ ghost use Rattle.request_text.specs.declared.request.Request.{Request};
 ghost use Rattle.tick_model.specs.Dump.{dump_text};
 ghost use Rattle.tick_model.specs.Universe.{Universe};
 
+use crate::planning::prepare;
 use base_bytes::Base;
 use base_ids::Player;
 use base_text::Bytes;
-use crate::planning::prepare;
 use closure::{Needed, Places, asked, needed};
 use happenings::Held;
 use reply_text::Reply;
