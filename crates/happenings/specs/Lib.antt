@@ -2,6 +2,7 @@ pub mod Orders
 pub mod Held
 pub mod Due
 pub mod Applying
+pub mod Merging
 pub mod Sights
 pub mod Naming
 pub mod Coming

@@ -5,6 +5,7 @@ mod applying;
 mod due;
 mod gaining;
 mod held;
+mod merging;
 mod looking;
 
 pub use applying::apply;

@@ -1,1 +1,6 @@
 pub mod Stepping
+pub mod Continuing
+pub mod Least
+pub mod Preparing
+pub mod Filling
+pub mod Texts

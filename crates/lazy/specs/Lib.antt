@@ -1,3 +1,6 @@
 pub mod Planning
 pub mod Plans
 pub mod Keeping
+pub mod Touching
+pub mod Beginning
+pub mod Dumping

@@ -9,10 +9,13 @@ ghost use Rattle.request_text.specs.declared.request.Request.{Request};
 ghost use Rattle.tick_model.specs.Dump.{dump_text};
 ghost use Rattle.tick_model.specs.Universe.{Universe};
 
+use crate::beginning::{cells_of, places_of};
+use crate::dumping::text_of;
+use crate::planning::prepare;
 use base_bytes::Base;
 use base_ids::Player;
 use base_text::Bytes;
-use closure::Places;
+use closure::{Needed, Places, asked, needed};
 use happenings::Held;
 use reply_text::Reply;
 use request_text::Request;
@@ -43,14 +46,23 @@ pub struct Prepared {
 
 impl LazyUniverse {
     ghost use Rattle.lazy.specs.Keeping.{Asks, IsPrepared, Keeps, KeepsSome};
+    ghost use Rattle.lazy.specs.Touching.{AreTouched};
 
     /// The universe of a base, with no request yet. It fails only if memory runs out.
     pub fn new(alloc: Global, base: &Base) -> Result<LazyUniverse, AllocError>
         requires { IsSound base.now }
         ensures { IfOk result (λ lazy. Keeps (universe_of base.now) [] lazy) }
     {
-        let _ = alloc;
-        Err(AllocError)
+        Ok(LazyUniverse {
+            rules: Rules {
+                seed: base.seed,
+                speed: base.speed,
+            },
+            places: places_of(alloc, base)?,
+            cells: cells_of(alloc, base)?,
+            moment: base.moment,
+            number: base.number,
+        })
     }
 
     /// Works out a request at a reading of at most 2^40 − 1, beside the universe, which stays as it is. It fails only if memory
@@ -67,8 +79,43 @@ impl LazyUniverse {
         requires reading { reading ≤ LATEST }
         ensures { IfOk result (IsPrepared self.now player req.now reading) }
     {
-        let _ = alloc;
-        Err(AllocError)
+        let moment = reading.max(self.moment);
+        let cells = self.touched(alloc, player, req, moment)?;
+        let plan = prepare(
+            alloc,
+            &self.rules,
+            &self.places,
+            &cells,
+            player,
+            req,
+            moment,
+        )?;
+        let (cells, reply) = plan.finish(self.number + 1);
+        Ok(Prepared {
+            cells,
+            moment,
+            reply,
+        })
+    }
+
+    // Copies of the cells that a request touches at a moment. It fails only if memory runs out.
+    fn touched(
+        &self,
+        alloc: Global,
+        player: Player,
+        req: &Request,
+        moment: u64,
+    ) -> Result<Held, AllocError>
+        requires { KeepsSome self.now }
+        ensures { IfOk result (AreTouched self.now player req.now moment) }
+    {
+        let Needed::Closed(asked) = asked(alloc, &self.places, &self.cells, player, req)? else {
+            unreachable!()
+        };
+        let Needed::Closed(ids) = needed(alloc, &self.cells, &asked, moment)? else {
+            unreachable!()
+        };
+        self.cells.pick(alloc, ids.as_slice())
     }
 
     /// The request acts that was worked out. It takes no memory.
@@ -79,6 +126,9 @@ impl LazyUniverse {
         ensures reply { result ≡ prepared.reply }
         ensures number { self.new.number ≡ self.old.number + 1 }
     {
+        self.cells.put_all(prepared.cells);
+        self.moment = prepared.moment;
+        self.number = prepared.reply.number;
         prepared.reply
     }
 
@@ -104,7 +154,6 @@ impl LazyUniverse {
     pub fn dump(&self, alloc: Global) -> Result<Bytes, AllocError>
         ensures { IfOk result (λ text. (base : Universe) (history : List Entry) → Keeps base history self.now → text ≡ dump_text base history) }
     {
-        let _ = alloc;
-        Err(AllocError)
+        text_of(alloc, &self.rules, &self.places, &self.cells)
     }
 }
