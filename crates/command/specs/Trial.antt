@@ -3,7 +3,7 @@ use Rattle.std.specs.Prelude.{◌≡◌, ℕ, ◌⊎◌, List, [], ◌∷◌, ta
 use Rattle.std.specs.Fmt.{decimal}
 use Rattle.std.specs.Io.KnownBytes.{Appends}
 use Rattle.std.specs.Str.Lines.{lines}
-use Rattle.founding.specs.Founding.{Founds, IsBadAt, IsUnfinished}
+use Rattle.strict_founding.specs.Founding.{Founds, IsBadAt, IsUnfinished}
 use Rattle.reply_text.specs.Words.{line}
 use Rattle.request_text.specs.LineReading.{Known}
 use Rattle.strict_model.specs.Universe.{Universe}

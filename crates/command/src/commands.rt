@@ -10,7 +10,7 @@ use crate::answering::answer_lines;
 use crate::status::{Stopped, exit_status};
 use crate::streams::write_all;
 use base_text::is_same;
-use founding::FoundingFault;
+use strict_founding::FoundingFault;
 use ports::{Clock, Sink, Source};
 use request_text::LineReader;
 use std::alloc::{AllocError, Global};
@@ -64,7 +64,7 @@ fn trial<S: Source, K: Sink, C: Clock>(
     ensures bounded { Known (S.left source.old) (S.left source.new) (IsBounded (status_of result)) }
 {
     let mut lines = LineReader::new(alloc)?;
-    match founding::read(alloc, &mut lines, source) {
+    match strict_founding::read(alloc, &mut lines, source) {
         Ok(mut universe) => answer_lines(alloc, &mut universe, &mut lines, source, clock, sink),
         Err(FoundingFault::Bad { line }) => name_bad_line(alloc, line, sink),
         Err(FoundingFault::ReadFault) => Err(Stopped::SourceFault),

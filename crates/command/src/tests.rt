@@ -367,7 +367,7 @@ fn bytes_come_and_go_in_pieces_of_any_size(rt: HostRuntime) -> Result<(), Fail> 
 fn fresh(alloc: Global) -> Result<StrictUniverse, Fail> {
     let mut lines = LineReader::new(alloc)?;
     let mut source = MemorySource::new(FOUNDING, &[]);
-    Ok(founding::read(alloc, &mut lines, &mut source)?)
+    Ok(strict_founding::read(alloc, &mut lines, &mut source)?)
 }
 
 #[test]

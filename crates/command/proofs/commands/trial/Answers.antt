@@ -1,7 +1,7 @@
 use Rattle.std.proofs.Common.{◌≡◌, ◌⊎◌, ℕ, List, inl, inr, refl, sym, subst, ◌∙◌}
 use Rattle.std.specs.Prelude.{Err}
-use Rattle.founding.specs.Reading.{Reads}
-use Rattle.founding.specs.declared.fault.FoundingFault.{FoundingFault}
+use Rattle.strict_founding.specs.Reading.{Reads}
+use Rattle.strict_founding.specs.declared.fault.FoundingFault.{FoundingFault}
 use Rattle.request_text.proofs.LineKnowing.{known-map, known-then}
 use Rattle.request_text.specs.LineReading.{Known}
 use Rattle.strict_model.specs.Strict.{universe_of}
