@@ -1,14 +1,13 @@
 -- What is held after cells are copied.
-use Rattle.std.proofs.Common.{◌≡◌, ℕ, ◌<◌, ◌++◌, Bool, true, false, cond, List, [], ◌∷◌, ap, ◌∙◌, sym, refl, subst, inl, inr, Option, Some, None}
+use Rattle.std.proofs.Common.{◌≡◌, ◌++◌, Bool, true, false, cond, List, [], ◌∷◌, ap, ◌∙◌, sym, refl, Option, Some, None}
 use Rattle.std.specs.Prelude.{◌&&◌, ◌||◌, is_some, OnOk}
 use Rattle.std.specs.declared.result.Result.{Result}
 use Rattle.std.specs.declared.result.Result.TheVariants.{Ok, Err}
 use Rattle.std.specs.List.{list_any}
 use Rattle.base_ids.specs.Cells.{same_cell}
 use Rattle.base_ids.specs.declared.cell_id.CellId.{CellId}
-use Rattle.laziness.proofs.Bringing.{test, never}
 use Rattle.tick_model.proofs.Lists.{cell-is, cell-turned}
-use Rattle.happenings.specs.Held.{Copies, IsNamed, Picks, Puts, Stand, held_at, holds}
+use Rattle.happenings.specs.Held.{Copies, Picks, Puts, Stand, held_at, holds}
 use Rattle.happenings.specs.declared.held.Held.{Held}
 
 pub on_ok : {T E : Type 0} (r : Result T E) (P Q : Type 0) → (P → Q) → OnOk r P → OnOk r Q

@@ -1,13 +1,8 @@
 -- What is held after a cell is held anew.
-use Rattle.std.proofs.Common.{◌≡◌, Bool, true, false, cond, ap, ◌∙◌, sym, refl, subst, Option, Some, None}
+use Rattle.std.proofs.Common.{◌≡◌, Bool, true, false, cond, ap, ◌∙◌, sym, refl, subst, Option, Some}
 use Rattle.std.specs.Prelude.{IfSome, option_map}
-use Rattle.std.specs.BTreeMap.{Updates, get, is_at, BTreeMap}
-use Rattle.base_ids.specs.Cells.{same_cell, same_coord, same_player}
-use Rattle.base_ids.specs.declared.cell_id.CellId.{CellId}
+use Rattle.std.specs.BTreeMap.{Updates, get, is_at}
 use Rattle.base_ids.specs.declared.cell_id.CellId.TheVariants.{Account, Planet}
-use Rattle.base_ids.specs.declared.coord.Coord.{Coord}
-use Rattle.base_ids.specs.declared.player.Player.{Player}
-use Rattle.laziness.proofs.Bringing.{test}
 use Rattle.happenings.specs.Held.{IsNamed, Puts, account_stand, held_at, planet_stand}
 use Rattle.happenings.specs.Orders.{place_order, player_order}
 use Rattle.happenings.specs.declared.held.AccountCell.{AccountCell}

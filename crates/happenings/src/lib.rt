@@ -4,6 +4,8 @@
 mod applying;
 mod due;
 mod held;
+mod merging;
+mod looking;
 
 pub use applying::apply;
 pub use due::Due;

@@ -1,5 +1,5 @@
 -- What it is for a lazy universe to keep a history, and to be asked. Rule: docs/RULES.md, "Time and order".
-use Rattle.std.specs.Prelude.{◌≡◌, ℕ, List, [], ◌∷◌, ◌++◌}
+use Rattle.std.specs.Prelude.{◌≡◌, ℕ, ◌+◌, max, Bool, true, List, [], ◌∷◌, ◌++◌}
 use Rattle.base_ids.specs.declared.cell_id.CellId.{CellId}
 use Rattle.base_ids.specs.declared.player.Player.{Player}
 use Rattle.request_text.specs.declared.entry.Entry.{Entry}
@@ -8,7 +8,7 @@ use Rattle.reply_text.specs.declared.reply.Reply.{Reply}
 use Rattle.closure.specs.Directory.{cells_of}
 use Rattle.happenings.specs.Held.{IsNamed, Shows, holds}
 use Rattle.tick_model.specs.History.{IsLegal, MayFollow}
-use Rattle.tick_model.specs.Keeping.{IsFounded, lazily_at}
+use Rattle.tick_model.specs.Keeping.{IsFounded, lazily_at, touched_at}
 use Rattle.tick_model.specs.Requests.{is_listed}
 use Rattle.tick_model.specs.Standing.{last_moment, last_number}
 use Rattle.tick_model.specs.Universe.{Universe}
@@ -49,6 +49,22 @@ abbrev pub Asks : LazyUniverse → LazyUniverse → Player → Request → ℕ �
 Asks old new player req reading reply =
     (base : Universe) (history : List Entry) → Keeps base history old → Continues base history new player req reading reply
 
--- A request was worked out beside a universe.
-abbrev pub IsPrepared : LazyUniverse → Player → Request → ℕ → Prepared → Type 0
-IsPrepared old player req reading prepared = ⊥
+-- What was worked out of an entry that may follow a history: just the cells that it touches, as they are after it, and its reply.
+pub record Works (base : Universe) (history : List Entry) (entry : Entry) (prepared : Prepared) : Type 0 where
+  pub touched : (cell : CellId) → holds prepared.cells cell ≡ touched_at base history entry cell
+  pub shows : Shows base.setting prepared.cells (lazily_at base (history ++ entry ∷ []))
+  pub replied : prepared.reply ≡ reply_of base history entry
+
+-- the entry that a request becomes that a universe is asked at a reading
+abbrev pub entry_of : LazyUniverse → Player → Request → ℕ → Entry
+entry_of lazy player req reading =
+    record { number = lazy.number + 1; moment = max reading lazy.moment; reading = reading; player = player; req = req }
+
+-- A request was worked out beside a universe: it has cells of the universe, the next number, and as its moment the greater of
+-- its reading and the universe's moment; and whatever history the universe keeps, it is what comes of that entry.
+pub record IsPrepared (old : LazyUniverse) (player : Player) (req : Request) (reading : ℕ) (prepared : Prepared) : Type 0 where
+  pub within : (cell : CellId) → holds prepared.cells cell ≡ true → holds old.cells cell ≡ true
+  pub named : IsNamed prepared.cells
+  pub next : prepared.reply.number ≡ old.number + 1
+  pub latest : prepared.moment ≡ max reading old.moment
+  pub works : (base : Universe) (history : List Entry) → Keeps base history old → Works base history (entry_of old player req reading) prepared

@@ -9,10 +9,11 @@ ghost use Rattle.request_text.specs.declared.request.Request.{Request};
 ghost use Rattle.tick_model.specs.Dump.{dump_text};
 ghost use Rattle.tick_model.specs.Universe.{Universe};
 
+use crate::planning::prepare;
 use base_bytes::Base;
 use base_ids::Player;
 use base_text::Bytes;
-use closure::Places;
+use closure::{Needed, Places, asked, needed};
 use happenings::Held;
 use reply_text::Reply;
 use request_text::Request;
@@ -43,6 +44,7 @@ pub struct Prepared {
 
 impl LazyUniverse {
     ghost use Rattle.lazy.specs.Keeping.{Asks, IsPrepared, Keeps, KeepsSome};
+    ghost use Rattle.lazy.specs.Touching.{AreTouched};
 
     /// The universe of a base, with no request yet. It fails only if memory runs out.
     pub fn new(alloc: Global, base: &Base) -> Result<LazyUniverse, AllocError>
@@ -67,8 +69,43 @@ impl LazyUniverse {
         requires reading { reading ≤ LATEST }
         ensures { IfOk result (IsPrepared self.now player req.now reading) }
     {
-        let _ = alloc;
-        Err(AllocError)
+        let moment = reading.max(self.moment);
+        let cells = self.touched(alloc, player, req, moment)?;
+        let plan = prepare(
+            alloc,
+            &self.rules,
+            &self.places,
+            &cells,
+            player,
+            req,
+            moment,
+        )?;
+        let (cells, reply) = plan.finish(self.number + 1);
+        Ok(Prepared {
+            cells,
+            moment,
+            reply,
+        })
+    }
+
+    // Copies of the cells that a request touches at a moment. It fails only if memory runs out.
+    fn touched(
+        &self,
+        alloc: Global,
+        player: Player,
+        req: &Request,
+        moment: u64,
+    ) -> Result<Held, AllocError>
+        requires { KeepsSome self.now }
+        ensures { IfOk result (AreTouched self.now player req.now moment) }
+    {
+        let Needed::Closed(asked) = asked(alloc, &self.places, &self.cells, player, req)? else {
+            unreachable!()
+        };
+        let Needed::Closed(ids) = needed(alloc, &self.cells, &asked, moment)? else {
+            unreachable!()
+        };
+        self.cells.pick(alloc, ids.as_slice())
     }
 
     /// The request acts that was worked out. It takes no memory.
@@ -79,6 +116,9 @@ impl LazyUniverse {
         ensures reply { result ≡ prepared.reply }
         ensures number { self.new.number ≡ self.old.number + 1 }
     {
+        self.cells.put_all(prepared.cells);
+        self.moment = prepared.moment;
+        self.number = prepared.reply.number;
         prepared.reply
     }
 

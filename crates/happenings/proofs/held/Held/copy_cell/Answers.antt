@@ -1,9 +1,9 @@
-use Rattle.std.proofs.Common.{◌≡◌, [], map, ap, ◌∙◌, sym, subst, Option, Some}
+use Rattle.std.proofs.Common.{◌≡◌, [], map, ap, ◌∙◌, sym, subst, Option}
 use Rattle.std.specs.Prelude.{IfSome, option_map}
 use Rattle.base_ids.specs.declared.cell_id.CellId.TheVariants.{Account, Planet}
 use Rattle.planet_cell.specs.Planet.{item_of}
 use Rattle.tick_model.specs.Universe.{of_planet}
-use Rattle.happenings.specs.Held.{Copies, Puts, Stand, account_stand, held_at, planet_stand}
+use Rattle.happenings.specs.Held.{Copies, Puts, account_stand, planet_stand}
 use Rattle.happenings.specs.declared.held.AccountCell.{AccountCell}
 use Rattle.happenings.specs.declared.held.PlanetCell.{PlanetCell}
 use Rattle.happenings.proofs.Copying.{copies_none, copies_one, on_ok}
