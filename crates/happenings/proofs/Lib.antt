@@ -5,3 +5,5 @@ pub mod Together
 pub mod Copying
 pub mod Standing
 pub mod Acting
+pub mod Owing
+pub mod Gains

@@ -5,3 +5,5 @@ pub mod Applying
 pub mod Merging
 pub mod Sights
 pub mod Naming
+pub mod Coming
+pub mod Gaining

@@ -3,6 +3,7 @@
 
 mod applying;
 mod due;
+mod gaining;
 mod held;
 mod merging;
 mod looking;

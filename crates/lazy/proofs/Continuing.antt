@@ -16,7 +16,7 @@ use Rattle.tick_model.specs.Standing.{last_moment, last_number}
 use Rattle.tick_model.specs.Universe.{Setting, Universe}
 use Rattle.tick_model.proofs.Keeping.{answers-entry}
 use Rattle.tick_model.proofs.Worlds.{last_moment-more, last_number-more, legal-more}
-use Rattle.lazy.specs.Keeping.{Asks, Continues, IsPrepared, Keeps, entry_of}
+use Rattle.lazy.specs.Keeping.{Asks, IsPrepared, Keeps, entry_of}
 use Rattle.lazy.specs.declared.universe.LazyUniverse.{LazyUniverse}
 use Rattle.lazy.specs.declared.universe.Prepared.{Prepared}
 

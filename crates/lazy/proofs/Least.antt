@@ -1,18 +1,16 @@
 -- The cells that are needed by what is held are those that an entry touches.
-use Rattle.std.proofs.Common.{◌≡◌, ℕ, ◌<◌, Bool, true, false, cond, List, [], ◌∷◌, length, Option, None, Some, refl, ap, ◌∙◌, sym, subst, arith, inl, inr}
-use Rattle.std.specs.Prelude.{IfOk, IfSome, IsSome, is_some, option_map, ◌&&◌, ◌||◌}
+use Rattle.std.proofs.Common.{◌≡◌, ℕ, ◌<◌, Bool, true, false, cond, List, [], ◌∷◌, Option, None, Some, refl, ap, ◌∙◌, sym, subst, arith, inl, inr}
+use Rattle.std.specs.Prelude.{IfOk, IfSome, IsSome, is_some, option_map, ◌||◌}
 use Rattle.std.specs.List.{Contains}
 use Rattle.std.specs.declared.result.Result.{Result}
 use Rattle.std.specs.declared.result.Result.TheVariants.{Ok, Err}
 use Rattle.std.proofs.lemmas.Map.Views.{list_any-from_Contains}
 use Rattle.base_ids.specs.Cells.{same_cell}
 use Rattle.base_ids.specs.declared.cell_id.CellId.{CellId}
-use Rattle.base_ids.specs.declared.cell_id.CellId.TheVariants.{Account}
 use Rattle.base_ids.specs.declared.player.Player.{Player}
 use Rattle.request_text.specs.declared.entry.Entry.{Entry}
 use Rattle.request_text.specs.declared.request.Request.{Request}
 use Rattle.laziness.specs.Closing.{IsLeast}
-use Rattle.laziness.specs.Laws.{Covers, IsClosed}
 use Rattle.laziness.specs.Stamps.{Stamps}
 use Rattle.laziness.proofs.Bringing.{never, test}
 use Rattle.laziness.proofs.Closures.{closing-least}
@@ -28,7 +26,7 @@ use Rattle.tick_model.specs.Game.{brings, game}
 use Rattle.tick_model.specs.Keeping.{lazily_at, touched_at}
 use Rattle.tick_model.specs.Requests.{asked, is_listed}
 use Rattle.tick_model.specs.Rules.{KeepsRules}
-use Rattle.tick_model.specs.Universe.{Setting, State, Universe}
+use Rattle.tick_model.specs.Universe.{Setting, Universe}
 use Rattle.tick_model.specs.Views.{View, view}
 use Rattle.tick_model.proofs.Asked.{asked-in}
 use Rattle.tick_model.proofs.GameLaws.{game_laws}

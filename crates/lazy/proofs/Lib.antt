@@ -1,3 +1,4 @@
 pub mod Continuing
 pub mod Least
 pub mod Preparing
+pub mod Filling

@@ -2,24 +2,23 @@
 use Rattle.std.proofs.Common.{◌≡◌, ℕ, ◌+◌, max, Bool, true, false, cond, List, [], ◌∷◌, ◌++◌, Option, None, Some, refl, ap, ◌∙◌, sym, subst}
 use Rattle.std.proofs.Math.Path.{fun_ext}
 use Rattle.std.specs.Prelude.{IfSome, is_some}
-use Rattle.base_ids.specs.declared.cell_id.CellId.{CellId}
 use Rattle.base_ids.specs.declared.player.Player.{Player}
 use Rattle.request_text.specs.declared.entry.Entry.{Entry}
 use Rattle.request_text.specs.declared.request.Request.{Request}
 use Rattle.reply_text.specs.declared.reply.Reply.{Reply}
-use Rattle.laziness.specs.Stamps.{Stamps, brought, request_acts}
+use Rattle.laziness.specs.Stamps.{brought, request_acts}
 use Rattle.laziness.specs.Theorems.{CanBring}
-use Rattle.happenings.specs.Held.{IsNamed, Shows, ShowsCell, Stand, held_at, holds}
+use Rattle.happenings.specs.Held.{Shows, ShowsCell, Stand, held_at, holds}
 use Rattle.happenings.specs.declared.held.Held.{Held}
 use Rattle.tick_model.specs.Game.{game}
-use Rattle.tick_model.specs.Keeping.{AnswersEntry, KeepsHistory, lazily_at, touched_at}
+use Rattle.tick_model.specs.Keeping.{AnswersEntry, lazily_at, touched_at}
 use Rattle.tick_model.specs.Step.{step}
-use Rattle.tick_model.specs.Universe.{Setting, Universe}
+use Rattle.tick_model.specs.Universe.{Universe}
 use Rattle.tick_model.specs.World.{reply as reply_of}
 use Rattle.tick_model.proofs.Keeping.{answers-entry, keeps-history}
 use Rattle.tick_model.proofs.Worlds.{legal-more, reply-number}
-use Rattle.lazy.specs.Keeping.{IsPrepared, Keeps, KeepsSome, Works, entry_of}
-use Rattle.lazy.specs.Planning.{CanAnswer, HoldsSame, IsAnswered}
+use Rattle.lazy.specs.Keeping.{IsPrepared, Keeps, KeepsSome, entry_of}
+use Rattle.lazy.specs.Planning.{CanAnswer, IsAnswered}
 use Rattle.lazy.specs.Touching.{AreTouched}
 use Rattle.lazy.specs.declared.universe.LazyUniverse.{LazyUniverse}
 use Rattle.lazy.specs.declared.universe.Prepared.{Prepared}

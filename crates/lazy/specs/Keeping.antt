@@ -1,5 +1,5 @@
 -- What it is for a lazy universe to keep a history, and to be asked. Rule: docs/RULES.md, "Time and order".
-use Rattle.std.specs.Prelude.{◌≡◌, ℕ, ◌+◌, max, Bool, true, List, [], ◌∷◌, ◌++◌}
+use Rattle.std.specs.Prelude.{◌≡◌, ℕ, ◌+◌, max, true, List, [], ◌∷◌, ◌++◌}
 use Rattle.base_ids.specs.declared.cell_id.CellId.{CellId}
 use Rattle.base_ids.specs.declared.player.Player.{Player}
 use Rattle.request_text.specs.declared.entry.Entry.{Entry}

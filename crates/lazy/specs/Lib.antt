@@ -2,3 +2,4 @@ pub mod Planning
 pub mod Plans
 pub mod Keeping
 pub mod Touching
+pub mod Beginning

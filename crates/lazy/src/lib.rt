@@ -1,6 +1,7 @@
 //! A universe whose cells stand at seconds of their own, each brought forward only if a request needs it.
 #![tactic(auto)]
 
+mod beginning;
 mod planning;
 mod universe;
 

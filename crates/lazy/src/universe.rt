@@ -9,6 +9,7 @@ ghost use Rattle.request_text.specs.declared.request.Request.{Request};
 ghost use Rattle.tick_model.specs.Dump.{dump_text};
 ghost use Rattle.tick_model.specs.Universe.{Universe};
 
+use crate::beginning::{cells_of, places_of};
 use crate::planning::prepare;
 use base_bytes::Base;
 use base_ids::Player;
@@ -51,8 +52,16 @@ impl LazyUniverse {
         requires { IsSound base.now }
         ensures { IfOk result (λ lazy. Keeps (universe_of base.now) [] lazy) }
     {
-        let _ = alloc;
-        Err(AllocError)
+        Ok(LazyUniverse {
+            rules: Rules {
+                seed: base.seed,
+                speed: base.speed,
+            },
+            places: places_of(alloc, base)?,
+            cells: cells_of(alloc, base)?,
+            moment: base.moment,
+            number: base.number,
+        })
     }
 
     /// Works out a request at a reading of at most 2^40 − 1, beside the universe, which stays as it is. It fails only if memory
