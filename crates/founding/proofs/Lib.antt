@@ -1,0 +1,14 @@
+pub mod Wording
+pub mod Putting
+pub mod Mapping
+pub mod Orders
+pub mod Finding
+pub mod Stepping
+pub mod Forms
+pub mod Once
+pub mod Rising
+pub mod Places
+pub mod Keeping
+pub mod Judging
+pub mod Ending
+pub mod Hearing
