@@ -37,8 +37,7 @@ pub owned_tested : (draft : Draft) (planet : NewPlanet) (places : Vec Coord Glob
     → Some places ≡ get player_order draft.players planet.owner → n ≡ vec_len places
     → (IsTrue (ltb n MOST_OWNED) → MayStand (draft_of draft) planet) × (MayStand (draft_of draft) planet → IsTrue (ltb n MOST_OWNED))
 owned_tested draft planet places n kept room absent found is =
-    let listed = ap (λ (o : Option (Vec Coord Global)). length (places_in o)) found ∙ ap length (kept.listed planet.owner) ∙ places-counted planet.owner (draft_of draft).planets in
-    (
+    let listed = ap (λ (o : Option (Vec Coord Global)). length (places_in o)) found ∙ ap length (kept.listed planet.owner) ∙ places-counted planet.owner (draft_of draft).planets in (
       λ few.
           let below = ltb-true n MOST_OWNED few in
           record {

@@ -1,8 +1,8 @@
 -- What keeps the maps of a draft in step with one another.
-use Rattle.std.proofs.Common.{◌≡◌, ℕ, ◌+◌, ◌≤◌, ◌<◌, Bool, true, false, cond, List, [], ◌∷◌, length, ap, ◌∙◌, sym, subst, arith, refl, Option, Some, None, vec_capacity}
+use Rattle.std.proofs.Common.{◌≡◌, ◌+◌, ◌≤◌, Bool, true, false, cond, List, [], ◌∷◌, length, ap, ◌∙◌, sym, subst, arith, refl, Option, Some, None, vec_capacity}
 use Rattle.std.specs.Prelude.{map, IsSome, Vec}
 use Rattle.std.specs.declared.alloc.Global.{Global}
-use Rattle.std.specs.BTreeMap.{get, insert_entry, is_at, keys, values, IsOrdered, BTreeMap}
+use Rattle.std.specs.BTreeMap.{get, insert_entry, is_at, keys, values, IsOrdered}
 use Rattle.std.specs.List.{AllByRecursion}
 use Rattle.std.specs.List.Sorted.{IsStrictlySortedBy}
 use Rattle.std.specs.Map.{keys_of, lookup, set_value, values_of}
@@ -16,13 +16,13 @@ use Rattle.base_ids.specs.Order.{coord_before, player_before}
 use Rattle.base_ids.specs.declared.coord.Coord.{Coord}
 use Rattle.base_ids.specs.declared.player.Player.{Player}
 use Rattle.founding.specs.DraftMaps.{draft_of, place_order, places_in, places_of, planet_of, player_order, IsKept}
-use Rattle.founding.specs.Drafts.{first_planet, planet_at, planet_before, put, replaced, DraftPlanet, MayName, MayStand}
+use Rattle.founding.specs.Drafts.{first_planet, planet_at, planet_before, put, DraftPlanet, MayName, MayStand}
 use Rattle.founding.specs.Filing.{AddsPlace}
 use Rattle.founding.specs.declared.draft.TheConstants.{MOST_OWNED, MOST_PLANETS, MOST_PLAYERS}
 use Rattle.founding.specs.declared.draft.Draft.{Draft}
 use Rattle.founding.specs.declared.named.NewPlanet.{NewPlanet}
 use Rattle.founding.specs.declared.sketch.Sketch.{Sketch}
-use Rattle.founding.proofs.Finding.{named_absent, named_put, planet_replaced, planets_listed, taken_absent, taken_put}
+use Rattle.founding.proofs.Finding.{named_absent, named_put, planet_replaced, taken_absent, taken_put}
 use Rattle.founding.proofs.Mapping.{All-insert_entry}
 use Rattle.founding.proofs.Orders.{lower_place, same_number, same_place_is, same_player_is}
 use Rattle.founding.proofs.Places.{length-replaced, places-put, places-replaced}

@@ -11,4 +11,6 @@ pub mod Places
 pub mod Keeping
 pub mod Judging
 pub mod Ending
+pub mod Listed
+pub mod Soundness
 pub mod Hearing

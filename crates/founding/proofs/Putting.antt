@@ -1,5 +1,5 @@
 -- What a list has after one more element is put in its place.
-use Rattle.std.proofs.Common.{◌≡◌, ℕ, suc, ◌+◌, ◌≤◌, Bool, true, false, cond, not, List, [], ◌∷◌, length, Option, None, Some, ap, ◌∙◌, refl, arith}
+use Rattle.std.proofs.Common.{◌≡◌, ℕ, suc, ◌+◌, ◌≤◌, Bool, true, false, cond, not, List, [], ◌∷◌, length, None, Some, ap, ◌∙◌, refl, arith}
 use Rattle.std.specs.Prelude.{count_by, if◌then◌else◌, nat_lt, ◌||◌, unwrap_or}
 use Rattle.std.specs.List.{insert, list_any, position, position_or_len}
 use Rattle.std.proofs.lemmas.Bool.{ltb-false}

@@ -12,7 +12,7 @@ use Rattle.base_ids.specs.declared.cell_id.CellId.TheVariants.{Account, Planet}
 use Rattle.base_ids.specs.declared.coord.Coord.{Coord}
 use Rattle.base_ids.specs.declared.player.Player.{Player}
 use Rattle.tick_model.specs.Universe.{Universe}
-use Rattle.founding.specs.Drafts.{first_planet, planet_at, planet_before, put, raised_to, replaced, stocked_with, Adds, DraftPlanet, Drafted, Grows}
+use Rattle.founding.specs.Drafts.{first_planet, planet_before, put, raised_to, replaced, stocked_with, Adds, DraftPlanet, Drafted, Grows}
 use Rattle.founding.specs.Founded.{founded}
 use Rattle.founding.specs.Founding.{Founds}
 
@@ -110,7 +110,6 @@ adds-rising draft new line rising (inr (inl says)) =
       players = rising.players;
       planets = rises-put planet_before planet draft.planets (λ x y. coords_ordered.transitive planet.at x.at y.at) (apart_planets planet draft.planets says.makes.0.free) rising.planets;
     })
-
 adds-rising draft new line rising (inr (inr (inl says))) =
     let planet = stocked_with says.value says.makes.0 in
     subst IsRising (sym says.makes.2) (record { players = rising.players; planets = rises-replaced planet draft.planets rising.planets })

@@ -185,7 +185,7 @@ no_planet_level line planet level first second = let both = ap length (sym first
 pub no_stock_level : (line : List (List ℕ)) (stock : NewStock) (level : NewLevel) → line ≡ stock_words stock → line ≡ level_words level → ⊥
 no_stock_level line stock level first second = let both = ap length (sym first ∙ second) in omega (arith, both)
 
-rules_is : (a b : Rules) → a.seed ≡ b.seed → a.speed ≡ b.speed → a ≡ b
+pub rules_is : (a b : Rules) → a.seed ≡ b.seed → a.speed ≡ b.speed → a ≡ b
 rules_is a b seed speed =
     let at = λ (s : ℕ). (from : 1 ≤ s) (to : s ≤ 100) → a ≡ record a { speed = s; speed_from = from; speed_to = to } in
     let first = subst at speed (λ from to i. record a { speed_from = le_prop a.speed_from from i; speed_to = le_prop a.speed_to to i }) b.speed_from b.speed_to in

@@ -1,6 +1,6 @@
 -- What the lines of a founding text say one after another, each judged by those before it. Rules: docs/RULES.md,
 -- "The founding", and docs/PROTOCOL.md, "The founding text".
-use Rattle.std.specs.Prelude.{◌≡◌, ◌<◌, ◌≤◌, ◌+◌, ◌*◌, ℕ, List, [], ◌∷◌, ◌++◌, Bool, true, false, if◌then◌else◌, length, map, count_by, find, slice_set, Option, None, Some, ◌⊎◌}
+use Rattle.std.specs.Prelude.{◌≡◌, ◌<◌, ◌≤◌, ◌+◌, ◌*◌, ℕ, List, [], ◌∷◌, Bool, true, false, if◌then◌else◌, length, count_by, find, slice_set, Option, None, Some, ◌⊎◌}
 use Rattle.std.specs.List.{list_any}
 use Rattle.base_ids.specs.Cells.{same_coord, same_player}
 use Rattle.base_ids.specs.Order.{coord_before, player_before}

@@ -95,15 +95,9 @@ impl Draft {
             account_room,
             planet_room,
         } = self;
-        Base {
-            seed: heading.rules.seed,
-            speed: heading.rules.speed,
-            capacity: heading.capacity,
-            moment: heading.moment,
-            number: 0,
-            accounts: list_accounts(players, account_room),
-            planets: list_planets(alloc, &planets, planet_room),
-        }
+        let accounts = list_accounts(players, account_room);
+        let planets = list_planets(alloc, &planets, planet_room);
+        heading.base(accounts, planets)
     }
 
     // Names the player.

@@ -60,10 +60,7 @@ pub fn put_back(planets: &mut BTreeMap<Coord, Sketch>, sketch: Sketch)
 }
 
 /// The accounts of the players in their order, in a list that has room for them.
-pub fn list_accounts(
-    players: BTreeMap<Player, Vec<Coord>>,
-    mut list: Vec<Account>,
-) -> Vec<Account>
+pub fn list_accounts(players: BTreeMap<Player, Vec<Coord>>, mut list: Vec<Account>) -> Vec<Account>
     requires empty { list.items ≡ [] }
     requires room { length players.entries ≤ vec_capacity list }
     ensures items { result.items ≡ map account_of players.entries }

@@ -14,4 +14,3 @@ mod sketch;
 pub use fault::FoundingFault;
 pub use laws::found_once;
 pub use read_text::read;
-

@@ -1,4 +1,4 @@
-use Rattle.std.proofs.Common.{◌≡◌, ◌∙◌, ap, arith, subst, sym, Option}
+use Rattle.std.proofs.Common.{◌∙◌, ap, arith, subst, sym, Option}
 use Rattle.std.specs.Prelude.{Vec}
 use Rattle.std.specs.declared.alloc.Global.{Global}
 use Rattle.base_ids.specs.Order.{coord_before}

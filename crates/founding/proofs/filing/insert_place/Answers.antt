@@ -2,7 +2,6 @@ use Rattle.std.proofs.Common.{◌≡◌, ◌∙◌, length, ap, arith}
 use Rattle.std.specs.Prelude.{if◌then◌else◌, is_ok, unwrap_or}
 use Rattle.std.specs.List.{insert, position}
 use Rattle.base_ids.specs.Order.{coord_before}
-use Rattle.base_ids.specs.declared.coord.Coord.{Coord}
 use Rattle.founding.proofs.Putting.{put-position}
 use Rattle.founding.proofs.filing.insert_place.Goals as goal
 

@@ -11,13 +11,14 @@ pub returns-then-len-ge-MOST_PLANETS : goal.returns-then-len-ge-MOST_PLANETS
 returns-then-len-ge-MOST_PLANETS c =
     let entries = c.args.self.now.planets.entries in
     let planets = length-map (values_of entries) planet_of in
-    let count = length-values_of entries in
-    (λ (is : false ≡ true). absurd (cc),
-    λ may.
-    absurd (elim c.then-len-ge-MOST_PLANETS.branch [
-      | then-len-ge-MOST_PLANETS-via-then-len-ge-MOST_PLANETS w ↦ let full = w.if-len-ge-MOST_PLANETS.true in let room = may.room in omega (arith, planets, count, full, room)
-      | then-len-ge-MOST_PLANETS-via-else-len-ge-MOST_PLANETS+then-contains_key w ↦ taken_refused c.args.self.now c.args.planet c.requires (sym w.if-contains_key.true ∙ w.contains_key.ensures) may
-    ]))
+    let count = length-values_of entries in (
+      λ (is : false ≡ true). absurd (cc),
+      λ may.
+          absurd (elim c.then-len-ge-MOST_PLANETS.branch [
+            | then-len-ge-MOST_PLANETS-via-then-len-ge-MOST_PLANETS w ↦ let full = w.if-len-ge-MOST_PLANETS.true in let room = may.room in omega (arith, planets, count, full, room)
+            | then-len-ge-MOST_PLANETS-via-else-len-ge-MOST_PLANETS+then-contains_key w ↦ taken_refused c.args.self.now c.args.planet c.requires (sym w.if-contains_key.true ∙ w.contains_key.ensures) may
+          ]),
+    )
 
 pub returns-in-Some : goal.returns-in-Some
 returns-in-Some c =

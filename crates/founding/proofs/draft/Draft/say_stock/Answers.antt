@@ -1,4 +1,4 @@
-use Rattle.std.proofs.Common.{◌≡◌, ◌∙◌, ap, refl, sym, subst, Some}
+use Rattle.std.proofs.Common.{◌≡◌, ◌∙◌, ap, refl, Some}
 use Rattle.founding.specs.Drafts.{planet_at, DraftPlanet}
 use Rattle.founding.specs.DraftMaps.{draft_of, planet_of}
 use Rattle.founding.proofs.Judging.{draft_replaced, standing_some}
