@@ -3,3 +3,4 @@ pub mod Plans
 pub mod Keeping
 pub mod Touching
 pub mod Beginning
+pub mod Dumping

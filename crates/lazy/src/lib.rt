@@ -2,6 +2,7 @@
 #![tactic(auto)]
 
 mod beginning;
+mod dumping;
 mod planning;
 mod universe;
 

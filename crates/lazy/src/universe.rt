@@ -10,6 +10,7 @@ ghost use Rattle.tick_model.specs.Dump.{dump_text};
 ghost use Rattle.tick_model.specs.Universe.{Universe};
 
 use crate::beginning::{cells_of, places_of};
+use crate::dumping::text_of;
 use crate::planning::prepare;
 use base_bytes::Base;
 use base_ids::Player;
@@ -153,7 +154,6 @@ impl LazyUniverse {
     pub fn dump(&self, alloc: Global) -> Result<Bytes, AllocError>
         ensures { IfOk result (λ text. (base : Universe) (history : List Entry) → Keeps base history self.now → text ≡ dump_text base history) }
     {
-        let _ = alloc;
-        Err(AllocError)
+        text_of(alloc, &self.rules, &self.places, &self.cells)
     }
 }
