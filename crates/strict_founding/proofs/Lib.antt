@@ -1,9 +1,0 @@
-pub mod Wording
-pub mod Putting
-pub mod Mapping
-pub mod Finding
-pub mod Stepping
-pub mod Forms
-pub mod Once
-pub mod Rising
-pub mod Hearing

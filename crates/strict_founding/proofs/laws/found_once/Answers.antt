@@ -1,6 +1,0 @@
-use Rattle.strict_founding.proofs.Once.{bad_once, founds_once, memory_first, never_both}
-use Rattle.strict_founding.proofs.Rising.{cells_in_order}
-use Rattle.strict_founding.proofs.laws.found_once.Goals as goal
-
-pub returns : goal.returns
-returns c = record { universes = founds_once; places = bad_once; apart = never_both; memory = memory_first; rising = cells_in_order }
