@@ -1,3 +1,4 @@
 pub mod Planning
+pub mod Advancing
 pub mod Plans
 pub mod Keeping

@@ -1,5 +1,5 @@
 -- Cells that are brought to a moment, and a request that acts on them there, whatever the cells are that aren't held.
-use Rattle.std.specs.Prelude.{◌≡◌, ℕ, ◌+◌, Bool, true}
+use Rattle.std.specs.Prelude.{◌≡◌, ℕ, ◌+◌, true}
 use Rattle.base_ids.specs.declared.cell_id.CellId.{CellId}
 use Rattle.base_ids.specs.declared.player.Player.{Player}
 use Rattle.request_text.specs.declared.entry.Entry.{Entry}
