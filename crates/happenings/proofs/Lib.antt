@@ -6,3 +6,4 @@ pub mod Standing
 pub mod Acting
 pub mod Owing
 pub mod Gains
+pub mod Numbered

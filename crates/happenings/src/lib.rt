@@ -6,6 +6,7 @@ mod due;
 mod gaining;
 mod held;
 mod looking;
+mod numbering;
 
 pub use applying::apply;
 pub use due::Due;
