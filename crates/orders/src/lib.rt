@@ -1,6 +1,7 @@
 //! The requests of players: what each comes to, what it changes of the parts that it asks for, and the lines that show them.
 #![tactic(auto)]
 
+mod acting;
 mod parts;
 mod writing;
 
