@@ -1,12 +1,11 @@
 -- What comes of a request about the caller's own planet.
-use Rattle.std.proofs.Common.{◌≡◌, ℕ, suc, ◌<◌, Bool, true, false, List, [], ◌∷◌, ◌++◌, ◌+◌, map, length, refl, ap, sym, subst, ◌∙◌, arith}
-use Rattle.std.specs.Prelude.{◌==◌, ◌&&◌, if◌then◌else◌, slice_set}
+use Rattle.std.proofs.Common.{◌≡◌, ℕ, suc, ◌<◌, true, false, List, [], ◌∷◌, ◌++◌, ◌+◌, map, length, refl, ap, sym, subst, ◌∙◌, arith}
+use Rattle.std.specs.Prelude.{◌==◌, if◌then◌else◌, slice_set, Result, Ok, Err, IfOk}
 use Rattle.std.proofs.lemmas.List.{length_push}
 use Rattle.std.proofs.lemmas.Bool.Decides.{nat_tests}
-use Rattle.base_ids.specs.Cells.{same_cell, same_coord}
-use Rattle.base_ids.specs.declared.cell_id.CellId.TheVariants.{Account as AccountId, Planet as PlanetId}
+use Rattle.base_ids.specs.Cells.{same_cell}
+use Rattle.base_ids.specs.declared.cell_id.CellId.TheVariants.{Planet as PlanetId}
 use Rattle.base_ids.specs.declared.coord.Coord.{Coord}
-use Rattle.base_ids.specs.declared.player.Player.{Player}
 use Rattle.catalog.specs.Kinds.{place_in}
 use Rattle.catalog.specs.declared.classes.TheConstants.{WORKS}
 use Rattle.catalog.specs.declared.kind.Kind.{Kind}
@@ -104,10 +103,10 @@ pub not_built : (sight : Sight) (rules : Rules) (moment : ℕ) (account : Accoun
     → IsOutcome sight (builds sight planet.at kind account (fields_of planet)) planet acted
 not_built sight rules moment account kind planet acted seen code some body =
     let came : builds sight planet.at kind account (fields_of planet) ≡ refused sight acted.code =
-      builds_is sight planet.at kind account (fields_of planet) (items_of planet) seen.queue
-      ∙ refused_order sight planet.at kind account (fields_of planet) (items_of planet) acted.code code some in
+    builds_is sight planet.at kind account (fields_of planet) (items_of planet) seen.queue
+    ∙ refused_order sight planet.at kind account (fields_of planet) (items_of planet) acted.code code some in
     let outcome : IsOutcome sight (refused sight acted.code) planet acted =
-      record { code = refl; body = body; own = seen.own; queue = seen.queue; accounts = λ player. refl } in
+    record { code = refl; body = body; own = seen.own; queue = seen.queue; accounts = λ player. refl } in
     subst (λ (x : Outcome). IsOutcome sight x planet acted) (sym came) outcome
 
 -- `build C BUILDING`, granted, for a planet that stands in the sight's own rules and moment
@@ -120,18 +119,18 @@ granted_now sight account kind old new acted order queue number none code body a
     let result = ordered sight.rules.speed sight.moment (fields_of old) (items_of old) (new_item old.at kind) in
     let line = order_line (placed sight.rules.speed sight.moment (fields_of old) (items_of old) kind) in
     let came : builds sight old.at kind account (fields_of old) ≡ granted line (new_buildings (PlanetId old.at) (of_planet result.planet) result.queue sight.seen) =
-      builds_is sight old.at kind account (fields_of old) (items_of old) queue
-      ∙ granted_order sight old.at kind account (fields_of old) (items_of old) none
-      ∙ ordered_outcome sight old.at kind (fields_of old) (items_of old) number in
+    builds_is sight old.at kind account (fields_of old) (items_of old) queue
+    ∙ granted_order sight old.at kind account (fields_of old) (items_of old) none
+    ∙ ordered_outcome sight old.at kind (fields_of old) (items_of old) number in
     let place = same_place old.at new.at at in
     let outcome : IsOutcome sight (granted line (new_buildings (PlanetId old.at) (of_planet result.planet) result.queue sight.seen)) new acted =
-      record {
-        code = code;
-        body = body ∙ ap order_line told;
-        own = rw place (ap (λ (x : Works). of_planet x.planet) (sym works));
-        queue = rw place (ap (λ (x : Works). x.queue) (sym works));
-        accounts = λ player. refl;
-      } in
+    record {
+      code = code;
+      body = body ∙ ap order_line told;
+      own = rw place (ap (λ (x : Works). of_planet x.planet) (sym works));
+      queue = rw place (ap (λ (x : Works). x.queue) (sym works));
+      accounts = λ player. refl;
+    } in
     subst (λ (x : Outcome). IsOutcome sight x new acted) (sym came) outcome
 
 -- `build C BUILDING`, granted
@@ -146,6 +145,7 @@ built sight rules moment account kind old new acted order seen none code body at
     granted_now sight account kind old new acted order seen.queue seen.number_is none code body at
     (told ∙ (λ i. placed (speed i) (time i) (fields_of old) (items_of old) kind))
     (works ∙ (λ i. ordered (speed i) (time i) (fields_of old) (items_of old) (new_item old.at kind)))
+
 -- the same, if the order was made on a copy
 pub built_on_copy : (sight : Sight) (rules : Rules) (moment : ℕ) (account : AccountFields) (kind : Kind) (old copy new : Planet) (acted : Acted) (order : Placed) → IsSeen sight rules moment old
     → AreSame old copy → build_refusal account (fields_of old) (items_of old) kind ≡ 0 → acted.code ≡ 0 → acted.body ≡ order_line order → new.at ≡ copy.at
@@ -159,4 +159,7 @@ built_on_copy sight rules moment account kind old copy new acted order seen same
     (told ∙ (λ i. placed rules.speed moment (fields i) (items i) kind))
     (works ∙ (λ i. ordered rules.speed moment (fields i) (items i) (new_item (sym same.at i) kind)))
 
-pub ruleset building = (not_built)
+-- what follows for each value that is there
+pub weaker : {A E : Type 0} (r : Result A E) (P Q : A → Type 0) → ((x : A) → P x → Q x) → IfOk r P → IfOk r Q
+weaker (Ok x) P Q follows here = follows x here
+weaker (Err e) P Q follows here = here

@@ -12,7 +12,7 @@ use Rattle.planet_cell.specs.declared.planet.Planet.{Planet}
 use Rattle.request_text.specs.declared.request.Request.{Request}
 use Rattle.request_text.specs.declared.request.Request.TheVariants.{Planet as PlanetOf, Build, Set}
 use Rattle.tick_model.specs.Changes.{Change}
-use Rattle.tick_model.specs.Requests.{Sight, buildings_at, outcome, own_seen}
+use Rattle.tick_model.specs.Requests.{Outcome, Sight, buildings_at, outcome, own_seen}
 use Rattle.tick_model.specs.Universe.{Buildings, Item, Own, of_nothing, of_account, of_planet}
 use Rattle.tick_model.specs.declared.rules.Rules.{Rules}
 
@@ -63,17 +63,18 @@ pub record IsLeftAs (sight : Sight) (change : Change) (at : Coord) (planet : Opt
   pub own : change.own (PlanetId at) ≡ planet_own planet
   pub queue : queue_after sight change at ≡ queue_of planet
 
--- The code and the lines are those that come of the request, and the parts have what the change has.
-pub record Comes (sight : Sight) (player : Player) (req : Request) (parts : Parts) (acted : Acted) : Type 0 where
-  pub code : acted.code ≡ (outcome sight player req).answer.code
-  pub body : acted.body ≡ (outcome sight player req).answer.body
-  pub caller : (outcome sight player req).change.own (AccountId player) ≡ account_own parts.caller
-  pub from : IfSome (place_named req) (λ at. IsLeftAs sight (outcome sight player req).change at parts.from)
+-- The code and the lines are those of an outcome, and the parts have what its change has: the caller's account, and the place that
+-- is named.
+pub record Comes (sight : Sight) (player : Player) (named : Option Coord) (came : Outcome) (parts : Parts) (acted : Acted) : Type 0 where
+  pub code : acted.code ≡ came.answer.code
+  pub body : acted.body ≡ came.answer.body
+  pub caller : came.change.own (AccountId player) ≡ account_own parts.caller
+  pub from : IfSome named (λ at. IsLeftAs sight came.change at parts.from)
 
--- so it is whatever a request of theirs goes by, if the parts show it
+-- Whatever a player's request goes by, if the parts show it, the outcome is that of the request.
 abbrev pub Acts : Rules → ℕ → Request → Parts → Parts → Acted → Type 0
 Acts rules moment req old new acted =
-    (sight : Sight) (player : Player) → AreShown sight player rules moment req old → Comes sight player req new acted
+    (sight : Sight) (player : Player) → AreShown sight player rules moment req old → Comes sight player (place_named req) (outcome sight player req) new acted
 
 -- The parts show the same as before.
 pub record AreKept (old new : Parts) : Type 0 where

@@ -14,7 +14,7 @@ use Rattle.reply_text.specs.OrderLines.{starts_line, waits_line}
 use Rattle.request_text.specs.declared.request.Request.{Request}
 use Rattle.request_text.specs.declared.request.Request.TheVariants.{Planet as PlanetOf, Build, Set}
 use Rattle.tick_model.specs.Requests.{Outcome, Sight, buildings_at, builds, own_seen, refused, sets, shows}
-use Rattle.tick_model.specs.Universe.{AccountFields, PlanetFields, of_planet}
+use Rattle.tick_model.specs.Universe.{of_planet}
 use Rattle.tick_model.specs.declared.codes.TheConstants.{NOT_BUILT}
 use Rattle.tick_model.specs.declared.rules.Rules.{Rules}
 

@@ -20,6 +20,71 @@ use request_text::Request;
 use std::alloc::{AllocError, Global};
 use tick_model::{NO_PLANET, NO_PLAYER, NOT_BUILT, NOT_YOURS, Rules};
 
+/// Acts on a request at a moment of at most 2^40 − 1, by the parts that it asks for, and changes them.
+///
+/// A request of a form that isn't played is refused with `tick_model::NOT_BUILT`. A request that is refused changes nothing, and
+/// the number of an item that is ordered is 0. It fails only if memory runs out, and then changes nothing.
+pub fn act(
+    alloc: Global,
+    parts: &mut Parts,
+    rules: &Rules,
+    req: &Request,
+    moment: u64,
+) -> Result<Acted, AllocError>
+    requires { moment ≤ LATEST }
+    ensures ok { IfOk result (Acts rules.now moment req.now parts.old parts.new) }
+    ensures refused { IfOk result (λ acted. 0 < acted.code → AreKept parts.old parts.new) }
+    ensures err { OnErr result (AreKept parts.old parts.new) }
+{
+    if !is_played(req) {
+        return Ok(refused(alloc, NOT_BUILT));
+    }
+    let Some(account) = &parts.caller else {
+        return Ok(refused(alloc, NO_PLAYER));
+    };
+    let Some(planet) = &mut parts.from else {
+        return Ok(refused(alloc, NO_PLANET));
+    };
+    if planet.owner.k != account.player.k {
+        return Ok(refused(alloc, NOT_YOURS));
+    }
+    act_on_own(alloc, account, planet, rules, req, moment)
+}
+
+/// Whether the form of a request is played.
+fn is_played(req: &Request) -> bool
+    ensures { MatchBool result (IsBuilt req.now) (IsBuilt req.now → ⊥) }
+{
+    matches!(
+        req,
+        Request::Planet(_) | Request::Build(_, _) | Request::Set(_, _, _)
+    )
+}
+
+/// Acts on a request about the caller's own planet.
+fn act_on_own(
+    alloc: Global,
+    account: &Account,
+    planet: &mut Planet,
+    rules: &Rules,
+    req: &Request,
+    moment: u64,
+) -> Result<Acted, AllocError>
+    requires built { IsBuilt req.now }
+    requires moment { moment ≤ LATEST }
+    ensures ok { IfOk result (Follows rules.now moment (on_planet req.now account.now planet.old) planet.old planet.new) }
+    ensures refused { IfOk result (λ acted. 0 < acted.code → works_of planet.new ≡ works_of planet.old) }
+    ensures err { OnErr result (works_of planet.new ≡ works_of planet.old) }
+    ensures at { planet.new.at ≡ planet.old.at }
+{
+    match req {
+        Request::Planet(_) => show(alloc, planet, rules),
+        Request::Build(_, building) => build(alloc, account, planet, rules, *building, moment),
+        Request::Set(_, work, tenths) => Ok(set(alloc, planet, *work, *tenths)),
+        _ => unreachable!(),
+    }
+}
+
 /// A refusal with this code.
 fn refused(alloc: Global, code: u8) -> Acted
     ensures { result ≡ record { code = code; body = [] } }
@@ -61,7 +126,7 @@ fn set(alloc: Global, planet: &mut Planet, work: Work, tenths: Tenths) -> Acted
 /// `build C BUILDING`: the next level of a building is ordered.
 ///
 /// It fails only if memory runs out, and the planet then stays as it was: the order is made on a copy.
-#[tactic(auto, using(crate::proofs::Granted::building, planet_cell::proofs::Granting::can_take))]
+#[tactic(auto, using(planet_cell::proofs::Granting::can_take))]
 fn build(
     alloc: Global,
     account: &Account,
@@ -94,7 +159,12 @@ fn order_line(alloc: Global, placed: Placed) -> Result<Bytes, AllocError>
 {
     let mut body = Bytes::new(alloc);
     match placed {
-        Placed::Starts { level, second } => push_starts(alloc, &mut body, u64::from(level), second)?,
+        Placed::Starts { level, second } => push_starts(
+            alloc,
+            &mut body,
+            u64::from(level),
+            second,
+        )?,
         Placed::Waits { place } => push_waits(alloc, &mut body, place as u64)?,
     }
     Ok(body)

@@ -5,5 +5,6 @@ mod acting;
 mod parts;
 mod writing;
 
+pub use acting::act;
 pub use parts::{Acted, Parts};
 pub use writing::{account_lines, planet_lines};
