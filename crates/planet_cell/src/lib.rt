@@ -14,3 +14,6 @@ mod refusing;
 pub use building_item::{BuildingItem, Placed};
 pub use growing::seconds_add_up;
 pub use planet::Planet;
+
+#[cfg(test)]
+mod tests;
