@@ -1,2 +1,5 @@
 pub mod Coursing
 pub mod Waiting
+pub mod Stepping
+pub mod Outcoming
+pub mod Showing
