@@ -7,3 +7,4 @@ pub mod Standing
 pub mod Acting
 pub mod Owing
 pub mod Gains
+pub mod Numbered

@@ -7,3 +7,4 @@ pub mod Sights
 pub mod Naming
 pub mod Coming
 pub mod Gaining
+pub mod Numbering

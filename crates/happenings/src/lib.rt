@@ -5,8 +5,9 @@ mod applying;
 mod due;
 mod gaining;
 mod held;
-mod merging;
 mod looking;
+mod merging;
+mod numbering;
 
 pub use applying::apply;
 pub use due::Due;

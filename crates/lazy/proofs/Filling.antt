@@ -5,7 +5,7 @@ use Rattle.std.proofs.lemmas.List.{get_or-map, length-map, map-append, take_more
 use Rattle.std.specs.Prelude.{AllPairs, IfSome, is_some, ◌||◌}
 use Rattle.std.specs.Coded.{le_prop}
 use Rattle.std.specs.List.{Contains}
-use Rattle.account_cell.specs.Account.{AreEqual}
+use Rattle.account_cell.specs.Account.{AreSame as AreSameAccount}
 use Rattle.account_cell.specs.declared.account.Account.{Account}
 use Rattle.base_bytes.specs.Base.{setting_of, universe_of}
 use Rattle.base_bytes.specs.Sound.{IsSound}
@@ -71,11 +71,11 @@ holds-more base names old new name stand holds puts named shows = record {
     alone false = refl
 
 -- a copy of an account of the base shows it
-account-shows : (base : Base) (account copy : Account) → IsSound base → Contains base.accounts.items account → AreEqual copy account
+account-shows : (base : Base) (account copy : Account) → IsSound base → Contains base.accounts.items account → AreSameAccount account copy
     → ShowsCell (setting_of base) (lazily_at (universe_of base) []) (AccountId account.player) (account_stand (record { second = base.moment; account = copy }))
 account-shows base account copy sound is equal = record {
   second = refl;
-  seen = (λ i. record { own = of_account (record { techs = equal.techs i }); items = []; fleets = []; planets = equal.planets i; units = equal.units i })
+  seen = (λ i. record { own = of_account (record { techs = sym equal.techs i }); items = []; fleets = []; planets = sym equal.planets i; units = sym equal.units i })
       ∙ sym (account-shown base account sound is);
 }
 
@@ -94,13 +94,13 @@ taken-more f front xs i x below is =
     ∙ ap (λ rest. front ++ rest) (sym (ap (map f) (take_more xs i x below) ∙ map-append f (take i xs) (get_or xs i x ∷ []) ∙ ap (λ y. map f (take i xs) ++ f y ∷ []) (sym is)))
 
 pub accounts-more : (base : Base) (old new : Held) (i : ℕ) (account copy : Account) → IsSound base → i < length base.accounts.items → account ≡ get_or base.accounts.items i account
-    → AreEqual copy account → HoldsOf base (map (λ account. AccountId account.player) (take i base.accounts.items)) old
+    → AreSameAccount account copy → HoldsOf base (map (λ account. AccountId account.player) (take i base.accounts.items)) old
     → Puts old new (AccountId copy.player) (account_stand (record { second = base.moment; account = copy })) → (IsNamed old → IsNamed new)
     → HoldsOf base (map (λ account. AccountId account.player) (take (i + 1) base.accounts.items)) new
 accounts-more base old new i account copy sound below is equal holds puts named =
     subst (λ names. HoldsOf base names new) (taken-more (λ (account : Account). AccountId account.player) [] base.accounts.items i account below is)
     (holds-more base (map (λ account. AccountId account.player) (take i base.accounts.items)) old new (AccountId account.player) (account_stand (record { second = base.moment; account = copy })) holds
-    (subst (λ k. Puts old new (AccountId k) (account_stand (record { second = base.moment; account = copy }))) equal.player puts) named
+    (subst (λ k. Puts old new (AccountId k) (account_stand (record { second = base.moment; account = copy }))) (sym equal.player) puts) named
     (account-shows base account copy sound (i, below, sym is) equal))
 
 pub planets-more : (base : Base) (old new : Held) (i : ℕ) (planet copy : Planet) → IsSound base → i < length base.planets.items → planet ≡ get_or base.planets.items i planet

@@ -4,3 +4,7 @@ pub mod Least
 pub mod Preparing
 pub mod Filling
 pub mod Texts
+pub mod Coursing
+pub mod Waiting
+pub mod Outcoming
+pub mod Showing

@@ -10,8 +10,7 @@ use Rattle.catalog.specs.declared.kind.Kind.{Kind}
 use Rattle.request_text.specs.declared.request.Request.{Request}
 use Rattle.request_text.specs.declared.request.Request.TheVariants.{Planet as PlanetOf, Build, Set}
 use Rattle.happenings.proofs.Standing.{building-seen, own-seen, planet_seen}
-use Rattle.orders.specs.Acting.{queue_after}
-use Rattle.orders.specs.Parts.{place_of}
+use Rattle.orders.specs.Acting.{place_named, queue_after}
 use Rattle.tick_model.specs.Buildings.{pays, started}
 use Rattle.tick_model.specs.Changes.{Change, new_buildings, new_own, no_change, write}
 use Rattle.tick_model.specs.Refusals.{build_refusal}
@@ -73,7 +72,7 @@ own_at sight player at (of_account account) (of_account other) grant is granted 
 own_at sight player at of_nothing there grant is granted = nothing refl
 own_at sight player at (of_planet planet) there grant is granted = nothing refl
 
-changes-in : (sight : Sight) (player : Player) (req : Request) → ChangesIn sight (place_of req) (outcome sight player req).change
+changes-in : (sight : Sight) (player : Player) (req : Request) → ChangesIn sight (place_named req) (outcome sight player req).change
 changes-in sight player (PlanetOf at) =
     own_at sight player at (own_seen sight (Account player)) (own_seen sight (Planet at)) (shows sight at) refl (λ account planet is. nothing refl)
 changes-in sight player (Build at building) =
@@ -174,7 +173,7 @@ unfolding step
 step_view setting player req t s x = refl
 
 -- what a request makes of the planet at the place that it names
-pub planet_stepped : (setting : Setting) (player : Player) (req : Request) (t : ℕ) (s : State) (at : Coord) (own : Own) (items : List Item) → place_of req ≡ Some at
+pub planet_stepped : (setting : Setting) (player : Player) (req : Request) (t : ℕ) (s : State) (at : Coord) (own : Own) (items : List Item) → place_named req ≡ Some at
     → asked setting.cells (view setting.cells s) player req (Planet at) ≡ true → view setting.cells s (Planet at) ≡ planet_seen own items → queue Buildings items ≡ items
     → ((item : Item) → IsIn item items → is_building_at (Planet at) item ≡ true)
     → view setting.cells (step setting player req t s).state (Planet at)
@@ -193,12 +192,12 @@ other_in setting player req t s x None change apart is =
 other_in setting player req t s x (Some at) change apart changes = other_after setting player req t s at x change apart changes
 
 -- it leaves every other cell as it is
-pub other_stepped : (setting : Setting) (player : Player) (req : Request) (t : ℕ) (s : State) (x : CellId) → IfSome (place_of req) (λ at. same_cell (Planet at) x ≡ false)
+pub other_stepped : (setting : Setting) (player : Player) (req : Request) (t : ℕ) (s : State) (x : CellId) → IfSome (place_named req) (λ at. same_cell (Planet at) x ≡ false)
     → view setting.cells (step setting player req t s).state x ≡ view setting.cells s x
 other_stepped setting player req t s x apart =
     let sight = sight_of setting player req t s in
     let change = (outcome sight player req).change in
-    step_view setting player req t s x ∙ other_in setting player req t s x (place_of req) change apart (changes-in sight player req)
+    step_view setting player req t s x ∙ other_in setting player req t s x (place_named req) change apart (changes-in sight player req)
 
 -- a cell that isn't asked for is as it was
 pub unasked_stepped : (setting : Setting) (entry : Entry) (t : ℕ) (s : State) (x : CellId) → asked setting.cells (view setting.cells s) entry.player entry.req x ≡ false

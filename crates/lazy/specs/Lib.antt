@@ -1,4 +1,6 @@
 pub mod Planning
+pub mod Advancing
+pub mod Taking
 pub mod Plans
 pub mod Keeping
 pub mod Touching

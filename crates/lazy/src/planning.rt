@@ -1,4 +1,5 @@
 ghost use Rattle.std.specs.Prelude.{IfOk, ◌≤◌};
+ghost use Rattle.happenings.specs.Held.{IsNamed};
 ghost use Rattle.laziness.specs.Stamps.{Stamps};
 ghost use Rattle.ports.specs.declared.clock.TheConstants.{LATEST};
 ghost use Rattle.tick_model.specs.Game.{game};
@@ -56,6 +57,7 @@ pub fn prepare(
     moment: u64,
 ) -> Result<Plan, AllocError>
     requires can { (setting : Setting) × (f : Stamps (game setting)) × CanAnswer setting rules.now places.now cells.now player req.now moment f }
+    requires named { IsNamed cells.now }
     requires in_time { moment ≤ LATEST }
     ensures { IfOk result (λ plan. (setting : Setting) (f : Stamps (game setting))
         → CanAnswer setting rules.now places.now cells.now player req.now moment f → IsPlan setting cells.now player req.now moment f plan) }

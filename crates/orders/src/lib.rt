@@ -1,13 +1,13 @@
-//! What each request makes of the cells that it asks for, and what it answers.
+//! The requests of players: what each comes to, what it changes of the parts that it asks for, and the lines that show them.
 #![tactic(auto)]
 
 mod acting;
-mod lines;
 mod parts;
+mod writing;
 
-pub use acting::{Acted, act};
-pub use lines::{account_lines, planet_lines};
-pub use parts::Parts;
+pub use acting::act;
+pub use parts::{Acted, Parts};
+pub use writing::{account_lines, planet_lines};
 
 #[cfg(test)]
 mod tests;

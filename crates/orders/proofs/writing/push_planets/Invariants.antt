@@ -1,7 +1,6 @@
--- What is written, with the lines of the planets that are left, makes all lines.
 use Rattle.std.proofs.Common.{◌≡◌, ◌++◌, drop}
 use Rattle.tick_model.specs.Lines.{own_planet_lines}
-use Rattle.orders.proofs.lines.push_planets.Given as goal
+use Rattle.orders.proofs.writing.push_planets.Given as goal
 
 abbrev pub invariant-planets : goal.invariant-planets
 invariant-planets l = l.body ++ own_planet_lines (drop l.at-index l.planets) ≡ l.initial.body ++ own_planet_lines l.planets
