@@ -3,3 +3,5 @@ pub mod Waiting
 pub mod Stepping
 pub mod Outcoming
 pub mod Showing
+pub mod Answering
+pub mod Ending
