@@ -8,3 +8,5 @@ pub mod Coursing
 pub mod Waiting
 pub mod Outcoming
 pub mod Showing
+pub mod Answering
+pub mod Ending

@@ -1,8 +1,8 @@
 -- What a request comes to: it is refused and changes nothing, or it is granted on the caller's own planet. And what its number makes of
 -- that.
-use Rattle.std.proofs.Common.{◌≡◌, ℕ, Bool, true, false, cond, eqb, ◌&&◌, List, [], ◌∷◌, ◌++◌, length, refl, ap, ◌∙◌, sym, subst, arith, Option, Some, None}
+use Rattle.std.proofs.Common.{◌≡◌, ℕ, Bool, true, false, cond, eqb, ◌&&◌, List, [], ◌∷◌, ◌++◌, refl, ap, ◌∙◌, sym, subst, arith, Option, Some, None}
 use Rattle.std.proofs.lemmas.List.{length-append}
-use Rattle.base_ids.specs.Cells.{same_cell, same_player}
+use Rattle.base_ids.specs.Cells.{same_player}
 use Rattle.base_ids.specs.declared.cell_id.CellId.TheVariants.{Account, Planet}
 use Rattle.base_ids.specs.declared.coord.Coord.{Coord}
 use Rattle.base_ids.specs.declared.player.Player.{Player}
@@ -31,7 +31,6 @@ pub data ComesTo (sight : Sight) (player : Player) (named : Option Coord) (came 
   refuses : (code : ℕ) → (code ≡ 0 → ⊥) → came ≡ refused sight code → ComesTo sight player named came
   grants : (at : Coord) (account : AccountFields) (planet : PlanetFields) → named ≡ Some at → own_seen sight (Account player) ≡ of_account account
       → own_seen sight (Planet at) ≡ of_planet planet → came.answer.code ≡ 0 → ComesTo sight player named came
-
 
 gives-comes : (sight : Sight) (player : Player) (at : Coord) (account : AccountFields) (planet : PlanetFields) (came : Outcome) → own_seen sight (Account player) ≡ of_account account
     → own_seen sight (Planet at) ≡ of_planet planet → Gives sight came → ComesTo sight player (Some at) came

@@ -1,5 +1,5 @@
 -- What a request can go by in the universe that held cells show: the parts that are taken from them.
-use Rattle.std.proofs.Common.{◌≡◌, ℕ, ◌+◌, Bool, true, false, cond, ◌&&◌, ◌||◌, refl, ap, ◌∙◌, sym, subst, inl, inr, Option, Some, None}
+use Rattle.std.proofs.Common.{◌≡◌, ℕ, Bool, true, false, cond, ◌&&◌, ◌||◌, refl, ap, ◌∙◌, sym, inl, inr, Option, Some, None}
 use Rattle.std.proofs.lemmas.Map.Views.{list_any-from_Contains}
 use Rattle.std.specs.Prelude.{IfSome, is_some, option_map}
 use Rattle.std.specs.BTreeMap.{get}
@@ -30,7 +30,7 @@ use Rattle.request_text.specs.declared.request.Request.TheVariants.{Planet as Pl
 use Rattle.tick_model.proofs.Keeping.{game_cells}
 use Rattle.tick_model.proofs.Lists.{and-from, and-is, cell-from, cell-is, cell-itself, cell-turned, fails}
 use Rattle.tick_model.specs.Game.{game}
-use Rattle.tick_model.specs.Requests.{Sight, asked, is_listed, is_there, names}
+use Rattle.tick_model.specs.Requests.{asked, is_listed, is_there, names}
 use Rattle.tick_model.specs.Step.{sight_of}
 use Rattle.tick_model.specs.Universe.{Buildings, Setting, State}
 use Rattle.tick_model.specs.Views.{View, nothing_seen, queue, shown, view}

@@ -1,5 +1,5 @@
 -- What a request makes of each cell, by the place that it names.
-use Rattle.std.proofs.Common.{◌≡◌, ℕ, ◌+◌, Bool, true, false, cond, ◌&&◌, eqb, List, [], ◌∷◌, ◌++◌, refl, ap, ◌∙◌, sym, subst, inl, inr, Option, Some, None}
+use Rattle.std.proofs.Common.{◌≡◌, ℕ, Bool, true, false, cond, ◌&&◌, eqb, List, [], ◌∷◌, ◌++◌, refl, ap, ◌∙◌, sym, subst, inl, inr, Option, Some, None}
 use Rattle.std.specs.Prelude.{IfSome}
 use Rattle.base_ids.specs.Cells.{same_cell, same_player}
 use Rattle.base_ids.specs.declared.cell_id.CellId.{CellId}
@@ -23,7 +23,7 @@ use Rattle.request_text.specs.declared.entry.Entry.{Entry}
 use Rattle.tick_model.proofs.Asked.{shown-planet, shown-there}
 use Rattle.tick_model.proofs.Requeued.{in-queue, queue_at}
 use Rattle.tick_model.proofs.Written.{change_of, request-made}
-use Rattle.tick_model.proofs.Lists.{cell-itself, filter-all, in-append}
+use Rattle.tick_model.proofs.Lists.{cell-itself, in-append}
 use Rattle.tick_model.proofs.Outcomes.{IsKept}
 use Rattle.tick_model.proofs.Writes.{is_building_at, outside, within-buildings, within-own, write-buildings, write-nothing, write-own}
 

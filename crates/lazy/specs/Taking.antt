@@ -1,10 +1,10 @@
 -- The parts that a request asks for, taken from cells that are held. Rule: docs/RULES.md, "Requests".
-use Rattle.std.specs.Prelude.{◌≡◌, Option, None, Some, IfSome, if◌then◌else◌}
+use Rattle.std.specs.Prelude.{◌≡◌, ℕ, Option, None, Some, IfSome, if◌then◌else◌}
 use Rattle.base_ids.specs.declared.cell_id.CellId.{CellId}
 use Rattle.base_ids.specs.declared.cell_id.CellId.TheVariants.{Account as AccountId, Planet as PlanetId}
 use Rattle.base_ids.specs.declared.coord.Coord.{Coord}
 use Rattle.base_ids.specs.declared.player.Player.{Player}
-use Rattle.happenings.specs.Held.{Stand, held_at, holds}
+use Rattle.happenings.specs.Held.{IsEqual, Puts, Stand, held_at, holds, planet_stand}
 use Rattle.happenings.specs.declared.held.Held.{Held}
 use Rattle.orders.specs.Acting.{account_own, place_named, planet_own, queue_of}
 use Rattle.orders.specs.declared.parts.Parts.{Parts}
@@ -32,3 +32,8 @@ pub record AreTaken (seen : CellId → View) (player : Player) (req : Request) (
   pub whose : IfSome parts.caller (λ account. account.player ≡ player)
   pub caller : (seen (AccountId player)).own ≡ account_own parts.caller
   pub from : IfSome (place_named req) (λ at. IsTaken (seen (PlanetId at)) at parts.from)
+
+-- a planet, if there is one, is held at its place at a moment, and all other cells as before
+abbrev pub PutsBack : Option Planet → ℕ → Held → Held → Type 0
+PutsBack None moment old new = IsEqual old new
+PutsBack (Some planet) moment old new = Puts old new (PlanetId planet.at) (planet_stand (record { second = moment; planet = planet }))
