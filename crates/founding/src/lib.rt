@@ -14,3 +14,6 @@ mod sketch;
 pub use fault::FoundingFault;
 pub use laws::found_once;
 pub use read_text::read;
+
+#[cfg(test)]
+mod tests;
