@@ -31,10 +31,10 @@ impl PlanetCell {
         ensures stand { IfOk result (λ cell. planet_stand cell ≡ gained rules.now moment (planet_stand self.now)) }
         ensures at { IfOk result (λ cell. cell.planet.at ≡ self.now.planet.at) }
     {
-        let mut cell = self.copy()?;
-        cell.planet.advance(moment - self.second, rules.speed);
-        cell.second = moment;
-        Ok(cell)
+        let mut later = self.copy()?;
+        later.planet.advance(moment - self.second, rules.speed);
+        later.second = moment;
+        Ok(later)
     }
 }
 

@@ -10,3 +10,4 @@ pub mod Outcoming
 pub mod Showing
 pub mod Answering
 pub mod Ending
+pub mod Samples

@@ -10,3 +10,6 @@ mod universe;
 pub use advancing::advance;
 pub use planning::{Plan, prepare};
 pub use universe::{LazyUniverse, Prepared};
+
+#[cfg(test)]
+mod tests;
