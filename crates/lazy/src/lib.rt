@@ -1,8 +1,0 @@
-//! A universe whose cells stand at seconds of their own, each brought forward only if a request needs it.
-#![tactic(auto)]
-
-mod planning;
-mod universe;
-
-pub use planning::{Plan, prepare};
-pub use universe::{LazyUniverse, Prepared};
