@@ -23,10 +23,10 @@ abbrev pub FirstIn : List Planet → ℕ → ℕ → Option Done → Type 0
 FirstIn planets moment count None = (place : ℕ) (planet : Planet) → place < count → at planets moment place planet ≡ None
 FirstIn planets moment count (Some done) = (done.place < count) × ((planet : Planet) → at planets moment done.place planet ≡ Some done) × NotSooner planets moment count done
 
-one_done : (a b : Done) → Some a ≡ Some b → a ≡ b
+pub one_done : (a b : Done) → Some a ≡ Some b → a ≡ b
 one_done a b same = cc
 
-no_done : {A : Type 0} (a : Done) → None ≡ Some a → A
+pub no_done : {A : Type 0} (a : Done) → None ≡ Some a → A
 no_done a same = absurd (cc same)
 
 placed_at : (b : Bool) (place : ℕ) (item : BuildingItem) (done : Done) → cond b (Some (record { second = item.second; number = item.number; place = place })) None ≡ Some done → done.place ≡ place

@@ -21,7 +21,7 @@ use Rattle.ticking.proofs.Thinned.{Thinned, thinned-apart, thinned-from}
 pub record Keeps (old new : Planet) : Type 0 where
   pub at : new.at ≡ old.at
   pub owner : new.owner ≡ old.owner
-  pub units : new.units ≡ old.units
+  pub units : sum new.units ≡ sum old.units
 
 abbrev Rises : Planet → Planet → Type 0
 Rises first second = coord_before first.at second.at ≡ true
@@ -48,14 +48,12 @@ places-kept player olds news kept =
 units-kept : (player : Player) (olds news : List Planet) → Paired Keeps olds news
     → sum (map (λ planet. sum planet.units) (planets_owned player olds)) ≡ sum (map (λ planet. sum planet.units) (planets_owned player news))
 units-kept player olds news kept =
-    ap sum (sym (paired-maps Keeps (λ planet. sum planet.units) (planets_owned player olds) (planets_owned player news) (λ x y k. ap sum k.units) (owned-kept player olds news kept)))
+    ap sum (sym (paired-maps Keeps (λ planet. sum planet.units) (planets_owned player olds) (planets_owned player news) (λ x y k. k.units) (owned-kept player olds news kept)))
 
--- the accounts, the number and the rules are as before
+-- the accounts and the number are as before
 pub record SameBase (old new : Base) : Type 0 where
   pub accounts : new.accounts.items ≡ old.accounts.items
   pub number : new.number ≡ old.number
-  pub seed : new.seed ≡ old.seed
-  pub speed : new.speed ≡ old.speed
 
 abbrev Lists : List Planet → Account → Type 0
 Lists planets account = account.planets.items ≡ map (λ planet. planet.at) (planets_owned account.player planets)
