@@ -6,3 +6,4 @@ pub mod Firsts
 pub mod Gained
 pub mod Finished
 pub mod Seconds
+pub mod Progress

@@ -85,7 +85,7 @@ done-from at moment place (first ∷ rest) item later same due =
     ap (λ b. cond b (Some (record { second = first.second; number = first.number; place = place })) None) by
     ∙ (λ i. Some (record { second = (here i).second; number = (here i).number; place = place }))
 
-at-place : (base : Base) (planet : Planet) → IsIn planet base.planets.items → (k : ℕ) × (k < length base.planets.items) × (get_or base.planets.items k planet ≡ planet)
+pub at-place : (base : Base) (planet : Planet) → IsIn planet base.planets.items → (k : ℕ) × (k < length base.planets.items) × (get_or base.planets.items k planet ≡ planet)
 at-place base planet is = let found = has-place planet base.planets.items is in (found.0, found.1, found.2)
 
 -- nothing is due if nothing is done

@@ -134,3 +134,24 @@ second-alike M L t u v fine fine' alike =
     let one : M.Id → ℕ = λ x. 1 in
     ends-alike M L t (M.advance one u) (M.advance one v) (L.advance_fine one u fine) (L.advance_fine one v fine') (λ x.
     L.advanced one u x ∙ ap (M.gains 1) (alike x) ∙ sym (L.advanced one v x))
+
+settled_at-count : (M : Model) → ModelLaws M → (rest : M.Universe → M.Universe) (u : M.Universe) (found : Option M.Event) → ((v : M.Universe) → M.count (rest v) ≡ M.count v)
+    → M.count (settled_at rest M.effect u found) ≡ M.count u
+settled_at-count M L rest u None keeps = refl
+settled_at-count M L rest u (Some e) keeps = keeps (M.effect e u) ∙ L.effect_count u e
+
+settle-count : (M : Model) → ModelLaws M → (t most : ℕ) (u : M.Universe) → M.count (settle M t most u) ≡ M.count u
+settle-count M L t zero u = refl
+settle-count M L t (suc most) u = settled_at-count M L (settle M t most) u (M.next (everything M) t u) (settle-count M L t most)
+
+-- a second is no request
+pub second-count : (M : Model) → ModelLaws M → (t : ℕ) (u : M.Universe) → M.count (second M t u) ≡ M.count u
+unfolding second
+second-count M L t u =
+    let one : M.Id → ℕ = λ x. 1 in
+    settle-count M L t (M.measure (M.advance one u)) (M.advance one u) ∙ L.advance_count one u
+
+-- a second is what becomes of a universe after every cell has gained
+pub second-ends-so : (M : Model) (t : ℕ) (u : M.Universe) → second M t u ≡ ends M t (M.advance (λ x. 1) u)
+unfolding second
+second-ends-so M t u = refl

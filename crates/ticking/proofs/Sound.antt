@@ -34,8 +34,8 @@ rises-kept (old ∷ olds) [] kept rises = absurd kept
 rises-kept (old ∷ olds) (new ∷ news) kept rises =
     AllPairs-cons Rises new news
     (all-from (Rises new) news (λ planet is.
-        let found = paired-from Keeps planet olds news kept.1 is in
-        (λ i. coord_before (kept.0.at i) (found.2.at i)) ∙ pairs-first Rises old found.0 olds rises found.1))
+    let found = paired-from Keeps planet olds news kept.1 is in
+    (λ i. coord_before (kept.0.at i) (found.2.at i)) ∙ pairs-first Rises old found.0 olds rises found.1))
     (rises-kept olds news kept.1 (pairs-later Rises old olds rises))
 
 owned-kept : (player : Player) (olds news : List Planet) → Paired Keeps olds news → Paired Keeps (planets_owned player olds) (planets_owned player news)

@@ -72,7 +72,7 @@ thinned-apart (old ∷ olds) [] thinned apart = thinned-apart olds [] (thinned-n
 thinned-apart (old ∷ olds) (new ∷ news) (inl both) apart =
     AllPairs-cons Apart new news
     (all-from (Apart new) news (λ item is.
-        let found = thinned-from item olds news both.1 is in
-        (λ same. pairs-first Apart old found.0 olds apart found.1 (sym both.0 ∙ same ∙ found.2))))
+    let found = thinned-from item olds news both.1 is in
+    (λ same. pairs-first Apart old found.0 olds apart found.1 (sym both.0 ∙ same ∙ found.2))))
     (thinned-apart olds news both.1 (pairs-later Apart old olds apart))
 thinned-apart (old ∷ olds) (new ∷ news) (inr skipped) apart = thinned-apart olds (new ∷ news) skipped (pairs-later Apart old olds apart)

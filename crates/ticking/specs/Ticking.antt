@@ -1,5 +1,7 @@
 -- A universe that ticks second by second. Rule: docs/RULES.md, "Time and order".
 use Rattle.std.specs.Prelude.{◌≡◌, ◌≢◌, ◌+◌, ◌<◌, ℕ, List, length, slice_index_or}
+use Rattle.base_bytes.specs.Base.{setting_of}
+use Rattle.base_bytes.specs.declared.base.Base.{Base}
 use Rattle.laziness.specs.Second.{second}
 use Rattle.planet_cell.specs.Planet.{fields_of, items_of}
 use Rattle.planet_cell.specs.Queue.{built_of, finished}
@@ -34,3 +36,20 @@ pub record HasFinished (speed place : ℕ) (old new : List Planet) : Type 0 wher
   pub built : (planet : Planet)
       → built_of (slice_index_or new place planet) ≡ finished speed (fields_of (slice_index_or old place planet)) (items_of (slice_index_or old place planet))
   pub others : (other : ℕ) (planet : Planet) → other ≢ place → slice_index_or new other planet ≡ slice_index_or old other planet
+
+-- but for its planets a base is as before
+pub record KeepsRest (old new : Base) : Type 0 where
+  pub rules : (setting_of new).rules ≡ (setting_of old).rules
+  pub capacity : new.capacity ≡ old.capacity
+  pub moment : new.moment ≡ old.moment
+  pub number : new.number ≡ old.number
+  pub accounts : new.accounts.items ≡ old.accounts.items
+
+-- a base stands at another moment, and is else as before
+pub record StandsAt (old new : Base) (moment : ℕ) : Type 0 where
+  pub rules : (setting_of new).rules ≡ (setting_of old).rules
+  pub capacity : new.capacity ≡ old.capacity
+  pub stands : new.moment ≡ moment
+  pub number : new.number ≡ old.number
+  pub accounts : new.accounts.items ≡ old.accounts.items
+  pub planets : new.planets.items ≡ old.planets.items

@@ -6,14 +6,14 @@ ghost use Rattle.ports.specs.declared.clock.TheConstants.{LATEST};
 ghost use Rattle.rates.specs.Times.{times};
 ghost use Rattle.tick_model.specs.Standing.{AreSame};
 ghost use Rattle.ticking.specs.Done.{IsFirstDone};
-ghost use Rattle.ticking.specs.Ticking.{HasFinished, HaveGained, ticks};
+ghost use Rattle.ticking.specs.Ticking.{HasFinished, HaveGained, KeepsRest, StandsAt, ticks};
 
 use crate::done::{Done, first_done};
 use base_bytes::Base;
 use planet_cell::Planet;
 
-/// Every planet gains for one second, in which no building is done. The speed is 1 to `catalog::TOP_SPEED`.
-fn gain(planets: &mut [Planet], speed: u32)
+/// Each planet gains for one second, in which no building is done. The speed is 1 to `catalog::TOP_SPEED`.
+fn gain_each(planets: &mut [Planet], speed: u32)
     requires { speed ≤ TOP_SPEED }
     ensures { HaveGained speed planets.old planets.new }
 {
@@ -22,8 +22,16 @@ fn gain(planets: &mut [Planet], speed: u32)
     }
 }
 
-/// The first building that is done by a moment, a second that a clock can tell, is done. The speed is 1 to `catalog::TOP_SPEED`.
-fn finish(planets: &mut [Planet], speed: u32, moment: u64, done: Done)
+/// Every planet of the universe gains for one second.
+fn gain(base: &mut Base)
+    ensures planets { HaveGained base.old.speed base.old.planets.items base.new.planets.items }
+    ensures rest { KeepsRest base.old base.new }
+{
+    gain_each(&mut base.planets, base.speed);
+}
+
+/// The building that runs on the planet at a place is done. The speed is 1 to `catalog::TOP_SPEED`.
+fn finish_at(planets: &mut [Planet], speed: u32, moment: u64, done: Done)
     requires done { IsFirstDone planets.old moment done }
     requires in_time { moment ≤ LATEST }
     requires speed_from { 1 ≤ speed }
@@ -33,6 +41,24 @@ fn finish(planets: &mut [Planet], speed: u32, moment: u64, done: Done)
     planets[done.place].finish_building(speed);
 }
 
+/// The first building that is done by a moment, which a clock can tell, is done.
+fn finish(base: &mut Base, moment: u64, done: Done)
+    requires done { IsFirstDone base.old.planets.items moment done }
+    requires in_time { moment ≤ LATEST }
+    ensures planets { HasFinished base.old.speed done.place base.old.planets.items base.new.planets.items }
+    ensures rest { KeepsRest base.old base.new }
+{
+    finish_at(&mut base.planets, base.speed, moment, done);
+}
+
+/// The universe stands at a moment.
+fn rise(base: &mut Base, moment: u64)
+    requires in_time { moment ≤ LATEST }
+    ensures { StandsAt base.old base.new moment }
+{
+    base.moment = moment;
+}
+
 /// One second of the universe, which is not its last one: every planet gains, and then each building that is done by then is done, in
 /// the order of events.
 fn second(base: &mut Base)
@@ -40,13 +66,14 @@ fn second(base: &mut Base)
     requires in_time { base.old.moment < LATEST }
     ensures ticks { AreSame (universe_of base.new) (ticks (universe_of base.old)) }
     ensures sound { IsSound base.new }
+    ensures capacity { base.new.capacity ≡ base.old.capacity }
 {
     let moment = base.moment + 1;
-    gain(&mut base.planets, base.speed);
+    gain(base);
     'events: while let Some(done) = first_done(&base.planets, moment) {
-        finish(&mut base.planets, base.speed, moment, done);
+        finish(base, moment, done);
     }
-    base.moment = moment;
+    rise(base, moment);
 }
 
 /// Lets a sound universe tick, second by second, to a moment that has not passed. The moment is at most `ports::LATEST`.
@@ -56,6 +83,7 @@ pub fn tick_to(base: &mut Base, moment: u64)
     requires in_time { moment ≤ LATEST }
     ensures ticks { AreSame (universe_of base.new) (times (moment - base.old.moment) ticks (universe_of base.old)) }
     ensures sound { IsSound base.new }
+    ensures capacity { base.new.capacity ≡ base.old.capacity }
 {
     'seconds: while base.moment < moment {
         second(base);
