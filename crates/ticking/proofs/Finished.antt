@@ -1,17 +1,14 @@
 -- What a base is after a building is done.
-use Rattle.std.proofs.Common.{◌≡◌, ◌≢◌, ◌⊎◌, ℕ, zero, suc, ◌+◌, ◌<◌, ◌≤◌, inl, inr, Bool, true, false, cond, nat_le, List, [], ◌∷◌, ◌++◌, length, get_or, filter, Option, None, Some, sum, arith, refl, ap, ◌∙◌, sym, subst}
-use Rattle.std.specs.Prelude.{find, map}
-use Rattle.std.specs.List.{All, flat_map}
-use Rattle.std.proofs.Math.Path.{fun_ext}
+use Rattle.std.proofs.Common.{◌≡◌, ◌≢◌, ◌⊎◌, ℕ, zero, suc, ◌+◌, ◌<◌, ◌≤◌, inl, inr, Bool, true, false, cond, nat_le, List, [], ◌∷◌, ◌++◌, length, get_or, None, Some, sum, arith, refl, ap, ◌∙◌, sym, subst}
+use Rattle.std.specs.Prelude.{map}
 use Rattle.std.proofs.lemmas.Bool.Decides.{nat_tests}
 use Rattle.std.proofs.lemmas.List.{length-append}
 use Rattle.std.proofs.lemmas.List.Elements.{All-contains}
-use Rattle.base_bytes.proofs.Among.{from-map, has-place, is-found}
+use Rattle.base_bytes.proofs.Among.{has-place}
 use Rattle.base_bytes.specs.Base.{all_items}
 use Rattle.base_bytes.specs.Sound.{IsSound, RunsAfter}
 use Rattle.base_bytes.specs.declared.base.Base.{Base}
-use Rattle.base_ids.specs.declared.cell_id.CellId.{CellId}
-use Rattle.base_ids.specs.declared.cell_id.CellId.TheVariants.{Account as AccountId, Planet as PlanetId}
+use Rattle.base_ids.specs.declared.cell_id.CellId.TheVariants.{Planet as PlanetId}
 use Rattle.laziness.proofs.Bringing.{early}
 use Rattle.planet_cell.specs.Planet.{fields_of, item_of, items_of}
 use Rattle.planet_cell.specs.Queue.{built_of, finished}
@@ -20,9 +17,9 @@ use Rattle.planet_cell.specs.declared.planet.Planet.{Planet}
 use Rattle.tick_model.proofs.Follows.{builds, follows-length}
 use Rattle.tick_model.specs.Buildings.{Built, done}
 use Rattle.tick_model.specs.Rules.{IsIn}
-use Rattle.tick_model.specs.Universe.{Item, Own, of_planet, PlanetFields}
+use Rattle.tick_model.specs.Universe.{Item, of_planet, PlanetFields}
 use Rattle.tick_model.specs.Views.{Holding, holding}
-use Rattle.ticking.proofs.Firsts.{no_done, one_done, within-any}
+use Rattle.ticking.proofs.Firsts.{no_done, one_done}
 use Rattle.ticking.proofs.Pairs.{Paired, all-from, paired, paired-from, paired-weaker}
 use Rattle.ticking.proofs.Sound.{Keeps, SameBase, stays-sound}
 use Rattle.ticking.proofs.Thinned.{Thinned, thinned-drop, thinned-flat, thinned-follows, thinned-same}

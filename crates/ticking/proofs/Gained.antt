@@ -1,9 +1,9 @@
 -- What a base is after every planet has gained.
-use Rattle.std.proofs.Common.{◌≡◌, ◌≢◌, ℕ, zero, suc, ◌+◌, ◌<◌, ◌≤◌, inl, inr, List, [], ◌∷◌, ◌++◌, length, get_or, slice_set, Option, None, Some, sum, get_or-set_other, get_or-set_same, arith, refl, ap, ◌∙◌, sym, subst}
+use Rattle.std.proofs.Common.{◌≡◌, ◌≢◌, ℕ, ◌+◌, ◌<◌, ◌≤◌, inl, inr, List, [], ◌∷◌, ◌++◌, length, get_or, slice_set, Option, None, Some, sum, get_or-set_other, get_or-set_same, arith, refl, ap, ◌∙◌, sym, subst}
 use Rattle.std.specs.Prelude.{find, map}
 use Rattle.std.proofs.Math.Path.{fun_ext}
 use Rattle.account_cell.specs.declared.account.Account.{Account}
-use Rattle.base_bytes.specs.Base.{all_items, cells_of, own_account, own_of, own_planet, setting_of, universe_of}
+use Rattle.base_bytes.specs.Base.{cells_of, own_account, own_of, own_planet, setting_of, universe_of}
 use Rattle.base_bytes.specs.Sound.{IsSound, RunsAfter}
 use Rattle.base_bytes.specs.declared.base.Base.{Base}
 use Rattle.base_ids.specs.Cells.{same_coord}
@@ -15,10 +15,9 @@ use Rattle.planet_cell.specs.declared.building_item.BuildingItem.{BuildingItem}
 use Rattle.planet_cell.specs.declared.planet.Planet.{Planet}
 use Rattle.rates.specs.Times.{times}
 use Rattle.std.proofs.lemmas.List.Elements.{All-contains}
-use Rattle.std.specs.List.{All}
 use Rattle.base_bytes.proofs.Among.{has-place}
 use Rattle.tick_model.specs.Production.{advance, own_second, planet_second}
-use Rattle.tick_model.specs.Universe.{Item, Own, of_planet, PlanetFields, State}
+use Rattle.tick_model.specs.Universe.{Item, of_planet, PlanetFields}
 use Rattle.tick_model.specs.declared.rules.Rules.{Rules}
 use Rattle.ticking.proofs.Firsts.{within-any}
 use Rattle.ticking.proofs.Pairs.{Both, Paired, all-from, paired, paired-find, paired-flat, paired-from, paired-maps, paired-weaker}

@@ -1,7 +1,6 @@
 -- A second on its way, and seconds one after another.
-use Rattle.std.proofs.Common.{◌≡◌, ℕ, zero, suc, ◌+◌, ◌-◌, ◌<◌, ◌≤◌, inl, inr, Bool, true, false, nat_le, cond, List, [], ◌∷◌, length, get_or, Option, None, Some, arith, refl, ap, ◌∙◌, sym, subst}
+use Rattle.std.proofs.Common.{◌≡◌, ℕ, zero, suc, ◌+◌, ◌-◌, ◌<◌, ◌≤◌, Bool, true, false, nat_le, cond, List, [], ◌∷◌, Option, None, Some, arith, refl, ap, ◌∙◌, sym, subst}
 use Rattle.std.proofs.Math.Bridge.{le_prop}
-use Rattle.std.specs.Prelude.{map}
 use Rattle.std.specs.List.{All}
 use Rattle.base_bytes.proofs.Bases.{keeps-rules}
 use Rattle.base_bytes.specs.Base.{all_items, cells_of, own_of, setting_of, universe_of}
@@ -12,18 +11,16 @@ use Rattle.catalog.specs.declared.settings.TheConstants.{TOP_SPEED}
 use Rattle.laziness.proofs.Seconds.{second-fine}
 use Rattle.laziness.specs.Laws.{NoneDue}
 use Rattle.laziness.specs.Second.{everything, second}
-use Rattle.planet_cell.specs.Planet.{item_of, items_of}
 use Rattle.planet_cell.specs.declared.building_item.BuildingItem.{BuildingItem}
 use Rattle.planet_cell.specs.declared.planet.Planet.{Planet}
 use Rattle.rates.specs.Times.{times}
 use Rattle.std.proofs.lemmas.Bool.Decides.{nat_tests}
 use Rattle.tick_model.proofs.GameLaws.{game_laws}
 use Rattle.tick_model.specs.Game.{game}
-use Rattle.tick_model.specs.Production.{advance}
 use Rattle.tick_model.specs.Rules.{KeepsRules}
 use Rattle.tick_model.specs.Standing.{AreSame}
 use Rattle.tick_model.specs.Universe.{Setting, State, Universe}
-use Rattle.tick_model.specs.Views.{View, view}
+use Rattle.tick_model.specs.Views.{view}
 use Rattle.tick_model.specs.declared.rules.Rules.{Rules}
 use Rattle.ticking.proofs.Finished.{finished-sound, finishes}
 use Rattle.ticking.proofs.Gained.{gained-cells, gained-sound, gained-state}

@@ -1,15 +1,14 @@
 -- What a universe becomes while the buildings of a second are done.
-use Rattle.std.proofs.Common.{◌≡◌, ◌≢◌, ◌⊎◌, ℕ, ◌+◌, ◌-◌, ◌<◌, ◌≤◌, inl, inr, Bool, true, false, nat_le, cond, List, [], ◌∷◌, ◌++◌, length, get_or, filter, Option, None, Some, arith, refl, ap, ◌∙◌, sym, subst}
+use Rattle.std.proofs.Common.{◌≡◌, ℕ, ◌<◌, ◌≤◌, inl, inr, true, false, nat_le, cond, List, [], ◌∷◌, length, get_or, filter, Option, None, Some, arith, refl, ap, ◌∙◌, sym, subst}
 use Rattle.std.specs.Prelude.{find, map}
-use Rattle.std.specs.List.{All}
 use Rattle.std.proofs.Math.Path.{fun_ext}
 use Rattle.std.proofs.lemmas.Bool.Decides.{nat_tests}
 use Rattle.std.proofs.lemmas.List.Elements.{All-contains}
 use Rattle.account_cell.specs.declared.account.Account.{Account}
 use Rattle.base_bytes.proofs.Among.{from-flat, from-map, has-place, is-found}
 use Rattle.base_bytes.proofs.Bases.{keeps-rules}
-use Rattle.base_bytes.proofs.Seen.{items-shown, planet-shown}
-use Rattle.base_bytes.specs.Base.{all_items, cells_of, own_account, own_of, own_planet, setting_of, universe_of}
+use Rattle.base_bytes.proofs.Seen.{planet-shown}
+use Rattle.base_bytes.specs.Base.{all_items, cells_of, own_of, own_planet, setting_of, universe_of}
 use Rattle.base_bytes.specs.Sound.{IsSound, RunsAfter}
 use Rattle.base_bytes.specs.declared.base.Base.{Base}
 use Rattle.base_ids.specs.Cells.{same_cell, same_coord}
@@ -23,24 +22,22 @@ use Rattle.laziness.proofs.Bringing.{test, never}
 use Rattle.laziness.specs.Laws.{IsNext, NoneDue}
 use Rattle.laziness.specs.Second.{everything}
 use Rattle.planet_cell.specs.Planet.{fields_of, item_of, items_of}
-use Rattle.planet_cell.specs.Queue.{built_of}
 use Rattle.planet_cell.specs.declared.planet.Planet.{Planet}
 use Rattle.planet_cell.specs.declared.building_item.BuildingItem.{BuildingItem}
 use Rattle.tick_model.proofs.Effects.{event-outside}
 use Rattle.tick_model.proofs.GameLaws.{game_laws}
-use Rattle.tick_model.proofs.Lists.{cell-is, filter-all, filter-none, from-filter, fails}
-use Rattle.tick_model.specs.Buildings.{Built, done}
-use Rattle.tick_model.specs.Events.{Event, built, effect, footprint, home, key_of, Owes, second_of}
+use Rattle.tick_model.proofs.Lists.{cell-is, filter-none, from-filter}
+use Rattle.tick_model.specs.Events.{Event, built, effect, home, key_of, Owes, second_of}
 use Rattle.tick_model.specs.Game.{game}
 use Rattle.tick_model.specs.Rules.{IsIn, KeepsRules}
-use Rattle.tick_model.specs.Universe.{Buildings, Item, Own, of_planet, PlanetFields, Setting, State, same_class}
+use Rattle.tick_model.specs.Universe.{Buildings, Item, same_class}
 use Rattle.tick_model.specs.Views.{View, holding, planets_of, queue, stands_in, units_of, view}
 use Rattle.ticking.proofs.Finished.{Finish, Replaced, finished-sound, first-past, keeps-finished, keeps-replaced, replaced}
 use Rattle.ticking.proofs.Gained.{kept-cells}
 use Rattle.ticking.proofs.Pairs.{Both, Paired, paired-find, paired-shown, paired-weaker}
-use Rattle.ticking.proofs.Settling.{Alike, alike-joined, alike-turned, ends, ends-alike, ends-event, ends-quiet}
+use Rattle.ticking.proofs.Settling.{Alike, alike-joined, alike-turned, ends, ends-alike, ends-event}
 use Rattle.ticking.proofs.Sound.{Keeps, SameBase}
-use Rattle.ticking.specs.Done.{IsFirstDone, IsNothingDone, done_at, key_at}
+use Rattle.ticking.specs.Done.{IsFirstDone, IsNothingDone, done_at}
 use Rattle.ticking.specs.Ticking.{HasFinished}
 use Rattle.ticking.specs.declared.done.Done.{Done}
 

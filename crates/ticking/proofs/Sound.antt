@@ -1,5 +1,5 @@
 -- A base stays sound while its planets gain and build.
-use Rattle.std.proofs.Common.{◌≡◌, ℕ, ◌≤◌, true, List, [], ◌∷◌, filter, sum, refl, ap, ◌∙◌, sym, subst}
+use Rattle.std.proofs.Common.{◌≡◌, ◌≤◌, true, List, [], ◌∷◌, sum, ap, ◌∙◌, sym, subst}
 use Rattle.std.specs.Prelude.{map, All, AllPairs}
 use Rattle.std.specs.List.{Contains}
 use Rattle.std.proofs.lemmas.List.Elements.{All-contains, All-weaker}

@@ -1,4 +1,4 @@
-use Rattle.std.proofs.Common.{◌≡◌, ◌+◌, ◌∙◌, ap, arith, subst, sym}
+use Rattle.std.proofs.Common.{◌+◌, ◌∙◌, ap, arith, subst, sym}
 use Rattle.ticking.proofs.Firsts.{FirstIn, first-all, first-more}
 use Rattle.ticking.specs.Done.{sooner_of}
 use Rattle.ticking.proofs.done.first_done.Goals as goal

@@ -1,4 +1,4 @@
-use Rattle.std.proofs.Common.{◌≡◌, ◌+◌, ◌≤◌, ◌-◌, ap, arith}
+use Rattle.std.proofs.Common.{◌≡◌, ◌+◌, arith}
 use Rattle.ticking.proofs.Progress.{more-passed, none-passed}
 use Rattle.ticking.proofs.ticking.tick_to.Goals as goal
 
