@@ -7,3 +7,4 @@ pub mod Gained
 pub mod Finished
 pub mod Seconds
 pub mod Progress
+pub mod Steps
