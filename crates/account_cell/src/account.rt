@@ -2,7 +2,8 @@ use base_ids::{Coord, Player};
 use catalog::Techs;
 use std::alloc::AllocError;
 
-/// An account: its player, the levels of its technologies, the places of its planets by coordinate, and how many units it has.
+/// An account: whose it is, the levels of its technologies, the places of its planets in the order of coordinates, and how many
+/// units it has, up to `catalog::UNITS`.
 #[derive(Debug, Drop)]
 pub struct Account {
     pub player: Player,
@@ -12,12 +13,12 @@ pub struct Account {
 }
 
 impl Account {
-    ghost use Rattle.std.specs.Prelude.{◌≡◌, IfOk};
-    ghost use Rattle.account_cell.specs.Account.{AreEqual};
+    ghost use Rattle.std.specs.Prelude.{IfOk};
+    ghost use Rattle.account_cell.specs.Account.{AreSame};
 
-    /// An equal account. It fails only if memory runs out.
+    /// The same account, in memory of its own.
     pub fn copy(&self) -> Result<Account, AllocError>
-        ensures { IfOk result (λ account. AreEqual account self.now) }
+        ensures { IfOk result (AreSame self.now) }
     {
         Ok(Account {
             player: self.player,

@@ -4,3 +4,6 @@
 mod account;
 
 pub use account::Account;
+
+#[cfg(test)]
+mod tests;

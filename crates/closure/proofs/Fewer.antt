@@ -1,12 +1,12 @@
 -- How many names are left falls with each new cell.
-use Rattle.std.proofs.Common.{◌≡◌, ℕ, ◌<◌, ◌≤◌, ◌+◌, Bool, true, false, length, get_or, take, refl, ap, sym, ◌∙◌, subst, arith}
+use Rattle.std.proofs.Common.{◌≡◌, ℕ, ◌<◌, ◌≤◌, ◌+◌, Bool, true, false, length, get_or, take, refl, ap, sym, ◌∙◌, arith}
 use Rattle.std.specs.Prelude.{List, [], ◌∷◌, ◌++◌, ◌||◌, if◌then◌else◌}
-use Rattle.std.proofs.lemmas.List.{take_more, take-append-le, get_or-take, get_or_default, length-take}
+use Rattle.std.proofs.lemmas.List.{get_or-take, get_or_default, length-take}
 use Rattle.std.proofs.lemmas.List.Folds.{list_any_none}
 use Rattle.base_ids.specs.Cells.{same_cell}
 use Rattle.base_ids.specs.declared.cell_id.CellId.{CellId}
-use Rattle.closure.specs.Lists.{AreDistinct, IsUnion, has}
-use Rattle.closure.proofs.Sameness.{same_cell_is, same_cell_itself, same_cell_swap}
+use Rattle.closure.specs.Lists.{AreDistinct, has}
+use Rattle.closure.proofs.Sameness.{same_cell_is, same_cell_swap}
 use Rattle.closure.proofs.Unions.{has-append}
 
 -- how many of the names aren't among the cells

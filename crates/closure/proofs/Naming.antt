@@ -1,6 +1,6 @@
 -- Which cells of the directory a request asks for.
-use Rattle.std.proofs.Common.{◌≡◌, Bool, true, false, refl, ap, sym, ◌∙◌, subst, arith}
-use Rattle.std.specs.Prelude.{List, [], ◌∷◌, ◌++◌, ◌&&◌, ◌||◌, map}
+use Rattle.std.proofs.Common.{◌≡◌, true, false, refl, ap, sym, ◌∙◌, arith}
+use Rattle.std.specs.Prelude.{List, [], ◌∷◌, ◌||◌, map}
 use Rattle.std.specs.List.{list_any}
 use Rattle.base_ids.specs.Cells.{same_cell, same_coord, same_player}
 use Rattle.base_ids.specs.declared.coord.Coord.{Coord}

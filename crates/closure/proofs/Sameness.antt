@@ -1,6 +1,5 @@
 -- Cells with the same numbers are one.
-use Rattle.std.proofs.Common.{◌≡◌, ℕ, Bool, true, false, eqb, refl, ap, arith}
-use Rattle.std.specs.Prelude.{List, [], ◌∷◌, ◌++◌, ◌&&◌, ◌||◌}
+use Rattle.std.proofs.Common.{◌≡◌, true, refl, ap, arith}
 use Rattle.std.proofs.lemmas.Bool.Decides.{nat_tests}
 use Rattle.base_ids.specs.Cells.{same_cell, same_coord, same_player}
 use Rattle.base_ids.specs.declared.coord.Coord.{Coord}
@@ -8,7 +7,6 @@ use Rattle.base_ids.specs.declared.player.Player.{Player}
 use Rattle.base_ids.specs.declared.cell_id.CellId.{CellId}
 use Rattle.base_ids.specs.declared.cell_id.CellId.TheVariants.{Account, Planet}
 use Rattle.base_ids.proofs.Names.{coord_is, player_is}
-use Rattle.closure.specs.Lists.{has}
 
 pub same_player_is : (a b : Player) → same_player a b ≡ true → a ≡ b
 same_player_is a b same = let k : a.k ≡ b.k = grind (arith, nat_tests) in player_is a b k

@@ -1,15 +1,15 @@
 -- What a walk along a list of cells has found when it stands at a place, and at its end.
 use Rattle.std.proofs.Common.{◌≡◌, ℕ, ◌<◌, ◌≤◌, ◌+◌, Bool, true, false, length, get_or, take, Option, None, Some, IsSome, refl, ap, sym, ◌∙◌, subst, arith, ◌⊎◌, inl, inr}
-use Rattle.std.specs.Prelude.{List, [], ◌∷◌, ◌++◌, ◌||◌, if◌then◌else◌}
+use Rattle.std.specs.Prelude.{List, [], ◌∷◌, ◌++◌}
 use Rattle.std.proofs.lemmas.List.{take_more, take-append-le, length-append}
 use Rattle.std.proofs.lemmas.List.Folds.{list_any_at}
 use Rattle.base_ids.specs.Cells.{same_cell}
 use Rattle.base_ids.specs.declared.cell_id.CellId.{CellId}
 use Rattle.tick_model.specs.Game.{brings}
 use Rattle.tick_model.specs.Views.{View}
-use Rattle.closure.specs.Closure.{AreBrought, AreMissing, IsEnough, IsLeastClosed, IsNeeded}
+use Rattle.closure.specs.Closure.{AreBrought, AreMissing, IsNeeded}
 use Rattle.closure.specs.Lists.{AreDistinct, IsUnion, has}
-use Rattle.closure.proofs.Sameness.{same_cell_is, same_cell_itself, same_cell_swap}
+use Rattle.closure.proofs.Sameness.{same_cell_is, same_cell_itself}
 use Rattle.closure.proofs.Fewer.{left, left_falls, not_before}
 use Rattle.closure.proofs.Unions.{has-append}
 

@@ -16,7 +16,7 @@ AreDistinct cells = AllPairs (λ one other. same_cell one other ≡ false) cells
 abbrev pub with_cell : List CellId → CellId → List CellId
 with_cell cells cell = if has cells cell then cells else cells ++ cell ∷ []
 
--- The list begins with the first one, and has the cells of both. If the first had no cell twice, neither has it.
+-- The list begins with the first one, and has the cells of both. If no cell comes twice in the first one, none does in this one.
 pub record IsUnion (first second all : List CellId) : Type 0 where
   pub more : List CellId
   pub front : all ≡ first ++ more

@@ -1,4 +1,5 @@
-ghost use Rattle.std.specs.Prelude.{◌≡◌, List, [], ◌∷◌, ◌++◌, length, IfOk, OnOk, OnErr};
+ghost use Rattle.std.specs.Prelude.{◌≡◌, List, [], ◌∷◌, ◌++◌, length, true, IfOk, IsOk, OnOk, OnErr};
+ghost use Rattle.base_ids.specs.Cells.{same_cell};
 ghost use Rattle.base_ids.specs.declared.cell_id.CellId.{CellId};
 ghost use Rattle.closure.specs.Lists.{IsUnion, has, with_cell};
 
@@ -46,7 +47,7 @@ impl Ids {
     pub fn contains(&self, id: CellId) -> bool
         ensures { result ≡ has self.now id }
     {
-        self.items.iter().any(|other| *other == id)
+        self.items.iter().any(|other| is_same(id, *other))
     }
 
     /// Appends the cell. It fails only if memory runs out, and then appends nothing.
@@ -58,10 +59,12 @@ impl Ids {
         Ok(())
     }
 
-    /// Appends the cell unless it is there. It fails only if memory runs out, and then appends nothing.
+    /// Appends the cell unless it is there. It fails only if memory runs out, never for a cell that is there, and then
+    /// appends nothing.
     pub fn add(&mut self, id: CellId) -> Result<(), AllocError>
         ensures ok { OnOk result (self.new ≡ with_cell self.old id) }
         ensures err { OnErr result (self.new ≡ self.old) }
+        ensures there { has self.old id ≡ true → IsOk result }
     {
         if self.contains(id) {
             return Ok(());
@@ -79,4 +82,11 @@ impl Ids {
         }
         Ok(self)
     }
+}
+
+/// Whether both are the same cell.
+fn is_same(one: CellId, other: CellId) -> bool
+    ensures { result ≡ same_cell one other }
+{
+    one == other
 }

@@ -1,10 +1,10 @@
 use crate::ids::Ids;
 
-/// Which cells a request needs.
+/// Which cells are needed, as far as those that are held tell.
 #[derive(Debug, Drop)]
 pub enum Needed {
-    /// All that it needs: each of these is held, and brings no further cell.
+    /// All that are needed.
     Closed(Ids),
-    /// Some that it needs and that aren't held, at least one.
+    /// Some that are needed and aren't held, at least one. Others may be needed too.
     Missing(Ids),
 }

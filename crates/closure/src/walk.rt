@@ -9,7 +9,8 @@ use std::alloc::{AllocError, Global};
 /// The cells that a request needs to act at a moment, by those that it asks for: the least set that has these and, with
 /// each cell, all without which that one can't be brought to the moment. `Missing` exactly if one of them isn't held.
 ///
-/// It fails only if memory runs out. It reads each cell once, and each time the list of those that it found.
+/// It fails only if memory runs out. It asks `look` for each cell once, and after each it goes over the cells that it has
+/// found.
 pub fn needed<L: CellLook>(
     alloc: Global,
     look: &L,

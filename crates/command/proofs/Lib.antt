@@ -1,3 +1,4 @@
 pub mod Numbering
 pub mod Progress
 pub mod Streaming
+pub mod Trying

@@ -1,5 +1,5 @@
 -- A status tells why a run ended.
-use Rattle.std.proofs.Common.{◌≡◌, ◌⊎◌, inl, inr, ℕ, Bool, true, false, cond, eqb, refl, sym, ap, ◌∙◌, eq-eqb}
+use Rattle.std.proofs.Common.{◌≡◌, ◌⊎◌, inl, inr, ℕ, false, cond, eqb, refl, sym, ap, ◌∙◌, eq-eqb}
 use Rattle.std.specs.Prelude.{Result, Ok, Err, OnErr, OnOk}
 use Rattle.command.specs.Statuses.{number_of, status_of}
 use Rattle.command.specs.declared.status.Stopped.{Stopped}
@@ -23,7 +23,7 @@ named_number NoMemory = refl
 named_number TooLong = refl
 named_number NotFounded = refl
 
-not_done : {A : Type 0} (s : Stopped) → number_of s ≡ DONE → A
+pub not_done : {A : Type 0} (s : Stopped) → number_of s ≡ DONE → A
 not_done NotACommand e = other 2 0 refl e
 not_done SourceFault e = other 4 0 refl e
 not_done SinkFault e = other 5 0 refl e
@@ -52,9 +52,8 @@ never_unfounded (Err s) (inl source) e = other 4 11 refl (ap status_of (sym sour
 never_unfounded (Err s) (inr (inl long)) e = other 9 11 refl (ap status_of (sym long ∙ e))
 never_unfounded (Err s) (inr (inr sink)) e = other 5 11 refl (ap status_of (sym sink ∙ e))
 
--- a run that named a bad line has no other status than these three
-pub named_status : {T A : Type 0} (ended : Result T Stopped) → (ended ≡ Err NotFounded) ⊎ (ended ≡ Err SinkFault) ⊎ (ended ≡ Err NoMemory)
-    → (status : ℕ) → eqb 11 status ≡ false → eqb 5 status ≡ false → eqb 7 status ≡ false → status_of ended ≡ status → A
-named_status ended (inl is) status a b d e = other 11 status a (sym (ap status_of is) ∙ e)
-named_status ended (inr (inl is)) status a b d e = other 5 status b (sym (ap status_of is) ∙ e)
-named_status ended (inr (inr is)) status a b d e = other 7 status d (sym (ap status_of is) ∙ e)
+-- a run that could not name a bad line has no other status than these two
+pub unnamed_status : {T A : Type 0} (ended : Result T Stopped) → (ended ≡ Err SinkFault) ⊎ (ended ≡ Err NoMemory)
+    → (status : ℕ) → eqb 5 status ≡ false → eqb 7 status ≡ false → status_of ended ≡ status → A
+unnamed_status ended (inl is) status a b e = other 5 status a (sym (ap status_of is) ∙ e)
+unnamed_status ended (inr is) status a b e = other 7 status b (sym (ap status_of is) ∙ e)

@@ -1,6 +1,6 @@
 -- How far the answers to a script have come.
-use Rattle.std.proofs.Common.{◌≡◌, ℕ, ◌+◌, ◌*◌, ◌≤◌, ◌<◌, true, false, Bool, List, [], ◌∷◌, ◌++◌, None, Some, Option, length, take, inl, inr, arith, refl, ap, ◌∙◌, sym, subst, decimal, length-append}
-use Rattle.std.proofs.lemmas.List.{append-nil, take_all}
+use Rattle.std.proofs.Common.{◌≡◌, ℕ, ◌+◌, ◌≤◌, ◌<◌, true, false, Bool, List, [], ◌∷◌, ◌++◌, None, Some, Option, length, take, arith, refl, ap, ◌∙◌, sym, subst, decimal, length-append}
+use Rattle.std.proofs.lemmas.List.{append-nil}
 use Rattle.std.proofs.Math.Seq.{take-append-add}
 use Rattle.std.proofs.KnownBytes.{Appends-nil, Appends-trans}
 use Rattle.std.specs.Io.KnownBytes.{Appends}
@@ -30,31 +30,38 @@ use Rattle.base_text.proofs.Splitting.{join-parts}
 use Rattle.std.specs.List.{join_with_byte}
 use Rattle.std.proofs.lemmas.Fmt.{decimal_nonempty}
 use Rattle.request_text.proofs.Spellings.{one_call}
-use Rattle.strict_model.specs.Standing.{Stands}
-use Rattle.strict_model.specs.Step.{IsBuilt}
-use Rattle.strict_model.specs.Talk.{AsksFor, AsksNothing, CameAt}
-use Rattle.strict_model.specs.Universe.{Universe}
-use Rattle.strict_model.proofs.Talks.{Told, told-nothing, told-long, told-bad, told-answered, told-unanswered, told-all}
-use Rattle.strict_model.proofs.Worlds.{stands-base, stands-asked}
-use Rattle.command.specs.Answers.{Answered, AnsweredAll, AnsweredPart, BrokeOff, IsTold, Turn, too_long, asks_nothing, asked, lacks_memory, Turns}
+use Rattle.lazy.specs.Keeping.{Asks, Keeps, KeepsSome}
+use Rattle.lazy.specs.declared.universe.LazyUniverse.{LazyUniverse}
+use Rattle.reply_text.specs.declared.reply.Reply.{Reply}
+use Rattle.tick_model.specs.Requests.{IsBuilt}
+use Rattle.tick_model.specs.Talk.{AsksFor, AsksNothing, CameAt}
+use Rattle.tick_model.specs.Universe.{Universe}
+use Rattle.tick_model.proofs.Talks.{Told, told-nothing, told-long, told-bad, told-answered, told-unanswered, told-all}
+use Rattle.command.specs.Answers.{Answered, AnsweredAll, AnsweredPart, BrokeOff, IsTold, KeepsOne, Turn, too_long, asks_nothing, asked, lacks_memory, Turns}
 
--- From a base on, these lines were answered with the bytes. The universe stands for their history, and the clock has told their
+-- a universe that was asked keeps some history, if it did before
+pub keeps-asked : (old new : LazyUniverse) (player : Player) (req : Request) (reading : ℕ) (reply : Reply) → KeepsSome old → Asks old new player req reading reply → KeepsSome new
+keeps-asked old new player req reading reply keeps asks =
+    let next = asks keeps.0 keeps.1 keeps.2 in
+    (keeps.0, keeps.1 ++ next.entry ∷ [], next.keeps)
+
+-- From a base on, these lines were answered with the bytes. The universe keeps their history, and the clock has told their
 -- readings.
-pub record Progress (base now : Universe) (done : List (List ℕ)) (t0 t1 : Option (List ℕ)) (bytes : List ℕ) : Type 0 where
+pub record Progress (base : Universe) (now : LazyUniverse) (done : List (List ℕ)) (t0 t1 : Option (List ℕ)) (bytes : List ℕ) : Type 0 where
   pub history : List Entry
   pub lacking : List Bool
   pub readings : List ℕ
-  pub stands : Stands base history now
+  pub keeps : Keeps base history now
   pub told : Told base history done lacking readings bytes
   pub tells : TellsReadings t0 t1 readings
 
-progress-start : (base : Universe) (t : Option (List ℕ)) → Progress base base [] t t []
-progress-start base t =
+progress-start : (base : Universe) (now : LazyUniverse) (t : Option (List ℕ)) → Keeps base [] now → Progress base now [] t t []
+progress-start base now t keeps =
     record {
       history = [];
       lacking = [];
       readings = [];
-      stands = stands-base base;
+      keeps = keeps;
       told = told-nothing base;
       tells = tells-none t;
     }
@@ -64,14 +71,14 @@ no_reading : (t0 t1 t2 : Option (List ℕ)) (readings : List ℕ) → TellsReadi
 no_reading t0 t1 t2 readings before tells = subst (TellsReadings t0 t2) (append-nil readings) (tells-all t0 t1 t2 readings [] before tells)
 
 -- one line more was answered
-progress-turn : (base now : Universe) (done : List (List ℕ)) (line : List ℕ) (t0 t1 t2 : Option (List ℕ)) (bytes : List ℕ) (before : Progress base now done t0 t1 bytes) (next : Universe) (taken answer : List ℕ)
+progress-turn : (base : Universe) (now : LazyUniverse) (done : List (List ℕ)) (line : List ℕ) (t0 t1 t2 : Option (List ℕ)) (bytes : List ℕ) (before : Progress base now done t0 t1 bytes) (next : LazyUniverse) (taken answer : List ℕ)
     → TellsReadings t1 t2 taken → Turn now line next taken answer → Progress base next (done ++ line ∷ []) t0 t2 (bytes ++ answer)
 progress-turn base now done line t0 t1 t2 bytes before _ _ _ tells (too_long over) =
     record {
       history = before.history;
       lacking = before.lacking ++ false ∷ [];
       readings = before.readings;
-      stands = before.stands;
+      keeps = before.keeps;
       told = told-long base before.history done before.lacking before.readings bytes line before.told over;
       tells = no_reading t0 t1 t2 before.readings before.tells tells;
     }
@@ -80,18 +87,18 @@ progress-turn base now done line t0 t1 t2 bytes before _ _ _ tells (asks_nothing
       history = before.history;
       lacking = before.lacking ++ false ∷ [];
       readings = before.readings;
-      stands = before.stands;
+      keeps = before.keeps;
       told = told-bad base before.history done before.lacking before.readings bytes line before.told short nothing;
       tells = no_reading t0 t1 t2 before.readings before.tells tells;
     }
 progress-turn base now done line t0 t1 t2 bytes before _ _ _ tells (asked call reading taken new reply short asks came ask) =
-    let next = stands-asked base before.history now new call.player call.req reading reply before.stands ask in
+    let next = ask base before.history before.keeps in
     let told = told-answered base before.history done before.lacking before.readings bytes line taken call reading next.entry before.told short asks came (record { reading = next.reading_is; player = next.player_is; req = next.req_is }) in
     record {
       history = before.history ++ next.entry ∷ [];
       lacking = before.lacking ++ false ∷ [];
       readings = before.readings ++ taken;
-      stands = next.stands;
+      keeps = next.keeps;
       told = subst (λ answer. Told base (before.history ++ next.entry ∷ []) (done ++ line ∷ []) (before.lacking ++ false ∷ []) (before.readings ++ taken) (bytes ++ text answer)) (sym next.replied) told;
       tells = tells-all t0 t1 t2 before.readings taken before.tells tells;
     }
@@ -100,24 +107,22 @@ progress-turn base now done line t0 t1 t2 bytes before _ _ _ tells (lacks_memory
       history = before.history;
       lacking = before.lacking ++ true ∷ [];
       readings = before.readings ++ taken;
-      stands = before.stands;
+      keeps = before.keeps;
       told = told-unanswered base before.history done before.lacking before.readings bytes line taken call reading before.told short asks came;
       tells = tells-all t0 t1 t2 before.readings taken before.tells tells;
     }
 
-progress-answered : (base now : Universe) (done : List (List ℕ)) (t0 t1 : Option (List ℕ)) (bytes : List ℕ) → Progress base now done t0 t1 bytes → Answered base now done t0 t1 bytes
+progress-answered : (base : Universe) (now : LazyUniverse) (done : List (List ℕ)) (t0 t1 : Option (List ℕ)) (bytes : List ℕ) → (before : Progress base now done t0 t1 bytes) → Answered base before.history done t0 t1 bytes
 progress-answered base now done t0 t1 bytes before =
     record {
-      history = before.history;
       lacking = before.lacking;
       readings = before.readings;
-      stands = before.stands;
       talk = told-all base before.history done before.lacking before.readings bytes before.told;
       tells = before.tells;
     }
 
 -- Of a whole text some lines were answered, the sink has the answers, and the reader sees the rest.
-pub record Come (reader : LineReader) (left : List ℕ) (base now : Universe) (whole : List ℕ) (t0 t1 w0 w1 : Option (List ℕ)) : Type 0 where
+pub record Come (reader : LineReader) (left : List ℕ) (base : Universe) (now : LazyUniverse) (whole : List ℕ) (t0 t1 w0 w1 : Option (List ℕ)) : Type 0 where
   pub done : List (List ℕ)
   pub rest : List ℕ
   pub heard : Heard whole done rest
@@ -126,26 +131,26 @@ pub record Come (reader : LineReader) (left : List ℕ) (base now : Universe) (w
   pub progress : Progress base now done t0 t1 bytes
   pub wrote : Appends w0 w1 bytes
 
-pub come-start : (reader : LineReader) (left : List ℕ) (base : Universe) (whole : List ℕ) (t w : Option (List ℕ)) → Sees reader left whole → Come reader left base base whole t t w w
-come-start reader left base whole t w sees =
+pub come-start : (reader : LineReader) (left : List ℕ) (base : Universe) (now : LazyUniverse) (whole : List ℕ) (t w : Option (List ℕ)) → Sees reader left whole → Keeps base [] now → Come reader left base now whole t t w w
+come-start reader left base now whole t w sees keeps =
     record {
       done = [];
       rest = whole;
       heard = heard-start whole;
       sees = sees;
       bytes = [];
-      progress = progress-start base t;
+      progress = progress-start base now t keeps;
       wrote = Appends-nil w;
     }
 
 -- the next line was told, and answered with these bytes
-pub record Goes (reader : LineReader) (more rest : List ℕ) (now next : Universe) (t1 t2 : Option (List ℕ)) (answer : List ℕ) : Type 0 where
+pub record Goes (reader : LineReader) (more rest : List ℕ) (now next : LazyUniverse) (t1 t2 : Option (List ℕ)) (answer : List ℕ) : Type 0 where
   pub line : List ℕ
   pub follows : Follows reader more rest line
   pub turn : Turns now next t1 t2 line answer
 
 -- one line more was answered, and its answer written
-pub come-more : (reader reader' : LineReader) (left more : List ℕ) (base now next : Universe) (whole answer : List ℕ) (t0 t1 t2 w0 w1 w2 : Option (List ℕ)) → (before : Come reader left base now whole t0 t1 w0 w1)
+pub come-more : (reader reader' : LineReader) (left more : List ℕ) (base : Universe) (now next : LazyUniverse) (whole answer : List ℕ) (t0 t1 t2 w0 w1 w2 : Option (List ℕ)) → (before : Come reader left base now whole t0 t1 w0 w1)
     → Goes reader' more before.rest now next t1 t2 answer → Appends w1 w2 answer → Come reader' more base next whole t0 t2 w0 w2
 come-more reader reader' left more base now next whole answer t0 t1 t2 w0 w1 w2 before goes wrote =
     record {
@@ -158,45 +163,50 @@ come-more reader reader' left more base now next whole answer t0 t1 t2 w0 w1 w2 
       wrote = Appends-trans w0 w1 w2 before.bytes answer before.wrote wrote;
     }
 
-come-all : (reader : LineReader) (left : List ℕ) (base now : Universe) (whole : List ℕ) (t0 t1 w0 w1 : Option (List ℕ)) → (before : Come reader left base now whole t0 t1 w0 w1) → AnsweredAll base now before.done t0 t1 w0 w1
+come-all : (reader : LineReader) (left : List ℕ) (base : Universe) (now : LazyUniverse) (whole : List ℕ) (t0 t1 w0 w1 : Option (List ℕ)) → (before : Come reader left base now whole t0 t1 w0 w1) → AnsweredAll base before.progress.history before.done t0 t1 w0 w1
 come-all reader left base now whole t0 t1 w0 w1 before =
     record { bytes = before.bytes; answered = progress-answered base now before.done t0 t1 before.bytes before.progress; wrote = before.wrote }
 
 -- no line is left
-pub come-end : (reader : LineReader) (left more : List ℕ) (base now : Universe) (whole : List ℕ) (t0 t1 w0 w1 : Option (List ℕ)) → (before : Come reader left base now whole t0 t1 w0 w1) → (before.rest ≡ []) × (more ≡ [])
-    → (more ≡ []) × AnsweredAll base now (lines whole) t0 t1 w0 w1
+pub come-end : (reader : LineReader) (left more : List ℕ) (base : Universe) (now : LazyUniverse) (whole : List ℕ) (t0 t1 w0 w1 : Option (List ℕ)) → (before : Come reader left base now whole t0 t1 w0 w1) → (before.rest ≡ []) × (more ≡ [])
+    → (more ≡ []) × KeepsOne base now (λ history. AnsweredAll base history (lines whole) t0 t1 w0 w1)
 come-end reader left more base now whole t0 t1 w0 w1 before end =
     let all = heard-all whole before.rest before.done before.heard end.0 in
-    (end.1, subst (λ ls. AnsweredAll base now ls t0 t1 w0 w1) (sym all) (come-all reader left base now whole t0 t1 w0 w1 before))
+    let history = before.progress.history in
+    (end.1, (history, before.progress.keeps, subst (λ ls. AnsweredAll base history ls t0 t1 w0 w1) (sym all) (come-all reader left base now whole t0 t1 w0 w1 before)))
 
 -- the source failed, or the reader may take no more
-pub come-part : (reader reader' : LineReader) (left more : List ℕ) (base now : Universe) (whole : List ℕ) (t0 t1 w0 w1 : Option (List ℕ)) → (before : Come reader left base now whole t0 t1 w0 w1) → Sees reader' more before.rest → Lacks 10 (kept reader')
-    → AnsweredPart base now whole more t0 t1 w0 w1
+pub come-part : (reader reader' : LineReader) (left more : List ℕ) (base : Universe) (now : LazyUniverse) (whole : List ℕ) (t0 t1 w0 w1 : Option (List ℕ)) → (before : Come reader left base now whole t0 t1 w0 w1) → Sees reader' more before.rest → Lacks 10 (kept reader')
+    → KeepsOne base now (λ history. AnsweredPart base history whole more t0 t1 w0 w1)
 come-part reader reader' left more base now whole t0 t1 w0 w1 before sees free =
     let rest = pends reader' more before.rest sees free in
-    record {
+    let history = before.progress.history in
+    let part : AnsweredPart base history whole more t0 t1 w0 w1 = record {
       said = before.heard.said;
       pending = rest.pending;
       parts = before.heard.parts ∙ ap (λ r. before.heard.said ++ r) rest.parts;
       unbroken = rest.unbroken;
-      all = subst (λ ls. AnsweredAll base now ls t0 t1 w0 w1) (sym before.heard.lines_said) (come-all reader left base now whole t0 t1 w0 w1 before);
-    }
+      all = subst (λ ls. AnsweredAll base history ls t0 t1 w0 w1) (sym before.heard.lines_said) (come-all reader left base now whole t0 t1 w0 w1 before);
+    } in
+    (history, before.progress.keeps, part)
 
 -- the sink took a front of an answer
-pub come-broken : (reader reader' : LineReader) (left more : List ℕ) (base now next : Universe) (whole answer : List ℕ) (count : ℕ) (t0 t1 t2 w0 w1 w2 : Option (List ℕ)) → (before : Come reader left base now whole t0 t1 w0 w1)
-    → Goes reader' more before.rest now next t1 t2 answer → Appends w1 w2 (take count answer) → BrokeOff base next (lines whole) t0 t2 w0 w2
+pub come-broken : (reader reader' : LineReader) (left more : List ℕ) (base : Universe) (now next : LazyUniverse) (whole answer : List ℕ) (count : ℕ) (t0 t1 t2 w0 w1 w2 : Option (List ℕ)) → (before : Come reader left base now whole t0 t1 w0 w1)
+    → Goes reader' more before.rest now next t1 t2 answer → Appends w1 w2 (take count answer) → KeepsOne base next (λ history. BrokeOff base history (lines whole) t0 t2 w0 w2)
 come-broken reader reader' left more base now next whole answer count t0 t1 t2 w0 w1 w2 before goes wrote =
     let heard = heard-line whole before.rest goes.line more before.done reader' before.heard goes.follows in
     let done = before.done ++ goes.line ∷ [] in
-    record {
+    let progress : Progress base next done t0 t2 (before.bytes ++ answer) = progress-turn base now before.done goes.line t0 t1 t2 before.bytes before.progress next goes.turn.0 answer goes.turn.1 goes.turn.2 in
+    let broke : BrokeOff base progress.history (lines whole) t0 t2 w0 w2 = record {
       taken_lines = done;
       rest = lines goes.follows.rest;
       parts = heard-lines whole goes.follows.rest done heard;
       bytes = before.bytes ++ answer;
-      answered = progress-answered base next done t0 t2 (before.bytes ++ answer) (progress-turn base now before.done goes.line t0 t1 t2 before.bytes before.progress next goes.turn.0 answer goes.turn.1 goes.turn.2);
+      answered = progress-answered base next done t0 t2 (before.bytes ++ answer) progress;
       count = length before.bytes + count;
       wrote = subst (Appends w0 w2) (sym (take-append-add before.bytes answer count)) (Appends-trans w0 w1 w2 before.bytes (take count answer) before.wrote wrote);
-    }
+    } in
+    (progress.history, progress.keeps, broke)
 
 -- a line that spells a call of a form that isn't built asks for nothing
 pub unbuilt : (line : List ℕ) (call : Call) → Spells true line call → (IsBuilt call.req → ⊥) → AsksNothing line

@@ -1,3 +1,5 @@
 pub mod Statuses
 pub mod Answers
 pub mod Trial
+pub mod TrialDump
+pub mod Beginning

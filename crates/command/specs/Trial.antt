@@ -6,7 +6,9 @@ use Rattle.std.specs.Str.Lines.{lines}
 use Rattle.founding.specs.Founding.{Founds, IsBadAt, IsUnfinished}
 use Rattle.reply_text.specs.Words.{line}
 use Rattle.request_text.specs.LineReading.{Known}
-use Rattle.strict_model.specs.Universe.{Universe}
+use Rattle.tick_model.specs.Standing.{Stands}
+use Rattle.tick_model.specs.Universe.{Universe}
+use Rattle.request_text.specs.declared.entry.Entry.{Entry}
 use Rattle.command.specs.Answers.{AnsweredAll, AnsweredPart, BrokeOff}
 use Rattle.command.specs.declared.status.TheConstants.{DONE, SOURCE_FAULT, SINK_FAULT, TOO_LONG, NOT_FOUNDED}
 
@@ -15,22 +17,28 @@ abbrev pub IsTrial : List (List ℕ) → Type 0
 IsTrial words = words ≡ codes "trial" ∷ []
 
 -- The text was read to its end. It begins with a founding text, and all lines after that were answered from the universe that it
--- founds; `now` is what they left of it.
+-- founds, with this history; `now` is what they left of it.
 pub record Tried (text more : List ℕ) (told_before told_after written_before written_after : Option (List ℕ)) : Type 0 where
   pub base : Universe
+  pub capacity : ℕ
+  pub history : List Entry
   pub now : Universe
   pub rest : List ℕ
-  pub founds : Founds (lines text) base (lines rest)
+  pub founds : Founds (lines text) base capacity (lines rest)
   pub ended : more ≡ []
-  pub all : AnsweredAll base now (lines rest) told_before told_after written_before written_after
+  pub stands : Stands base history now
+  pub all : AnsweredAll base history (lines rest) told_before told_after written_before written_after
 
 -- the same of the lines that were taken whole
 pub record TriedPart (text more : List ℕ) (told_before told_after written_before written_after : Option (List ℕ)) : Type 0 where
   pub base : Universe
+  pub capacity : ℕ
+  pub history : List Entry
   pub now : Universe
   pub rest : List ℕ
-  pub founds : Founds (lines text) base (lines rest)
-  pub part : AnsweredPart base now rest more told_before told_after written_before written_after
+  pub founds : Founds (lines text) base capacity (lines rest)
+  pub stands : Stands base history now
+  pub part : AnsweredPart base history rest more told_before told_after written_before written_after
 
 -- the founding text has not ended in what was taken of it, and nothing was written
 pub record Unfounded (text more : List ℕ) (told_before told_after written_before written_after : Option (List ℕ)) : Type 0 where
@@ -41,10 +49,13 @@ pub record Unfounded (text more : List ℕ) (told_before told_after written_befo
 -- the sink broke off among the answers
 pub record TriedBroken (text : List ℕ) (told_before told_after written_before written_after : Option (List ℕ)) : Type 0 where
   pub base : Universe
+  pub capacity : ℕ
+  pub history : List Entry
   pub now : Universe
   pub rest : List ℕ
-  pub founds : Founds (lines text) base (lines rest)
-  pub broke_off : BrokeOff base now (lines rest) told_before told_after written_before written_after
+  pub founds : Founds (lines text) base capacity (lines rest)
+  pub stands : Stands base history now
+  pub broke_off : BrokeOff base history (lines rest) told_before told_after written_before written_after
 
 -- the line that names the first bad line of a founding text
 abbrev pub bad_founding : ℕ → List ℕ

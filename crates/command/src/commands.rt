@@ -1,19 +1,15 @@
-ghost use Rattle.std.specs.Prelude.{◌≡◌, ◌↔◌, ◌⊎◌, ℕ, map, take, string_bytes, IfOk, IsErrOf, IsTrue};
-ghost use Rattle.std.specs.Io.KnownBytes.{Appends};
-ghost use Rattle.ports.specs.Causes.{Rose};
+ghost use Rattle.std.specs.Prelude.{◌≡◌, ◌↔◌, ◌⊎◌, map, string_bytes, IsTrue};
 ghost use Rattle.request_text.specs.LineReading.{Known};
-ghost use Rattle.command.specs.Statuses.{HasReason, IsBounded, IsStatus, status_of};
-ghost use Rattle.command.specs.Trial.{IsTrial, Trial, bad_founding};
+ghost use Rattle.command.specs.Statuses.{HasReason, IsBounded, IsStatus};
+ghost use Rattle.command.specs.Trial.{IsTrial, Trial, Tried};
+ghost use Rattle.command.specs.TrialDump.{IsTrialDump, TrialDump};
 ghost use Rattle.command.specs.declared.status.TheConstants.{NOT_A_COMMAND, NO_MEMORY, NOT_FOUNDED};
 
-use crate::answering::answer_lines;
 use crate::status::{Stopped, exit_status};
-use crate::streams::write_all;
+use crate::trials::{trial, trial_dump};
 use base_text::is_same;
-use founding::FoundingFault;
 use ports::{Clock, Sink, Source};
-use request_text::LineReader;
-use std::alloc::{AllocError, Global};
+use std::alloc::Global;
 
 /// Whether the words are those of the command `trial`.
 fn is_trial(words: &[String]) -> bool
@@ -25,58 +21,22 @@ fn is_trial(words: &[String]) -> bool
     }
 }
 
-/// The line that names the first bad line of a founding text.
-#[tactic(auto, unfolding(reply_text::specs::Words::line))]
-fn bad_founding_line(alloc: Global, number: u64) -> Result<String, AllocError>
-    ensures { IfOk result (λ text. string_bytes text ≡ bad_founding number) }
+/// Whether the words are those of the command `trial dump`.
+fn is_trial_dump(words: &[String]) -> bool
+    ensures { IsTrue result ↔ IsTrialDump (map string_bytes words.now) }
 {
-    format!(in alloc; "bad founding {number}\n")
-}
-
-/// Ends a run whose founding text is bad, after it has named the first bad line.
-fn name_bad_line<K: Sink>(alloc: Global, number: u64, sink: &mut K) -> Result<(), Stopped>
-    ensures ends { IsErrOf result Stopped.NotFounded ⊎ IsErrOf result Stopped.SinkFault ⊎ IsErrOf result Stopped.NoMemory }
-    ensures named { IsErrOf result Stopped.NotFounded → Appends (K.written sink.old) (K.written sink.new) (bad_founding number) }
-    ensures broken { IsErrOf result Stopped.SinkFault → (count : ℕ)
-        × Appends (K.written sink.old) (K.written sink.new) (take count (bad_founding number)) }
-    ensures sink_fault { IsErrOf result Stopped.SinkFault → Rose (K.faults sink.old) (K.faults sink.new) }
-    ensures kept { (IsErrOf result Stopped.SinkFault → ⊥) → K.faults sink.new ≡ K.faults sink.old }
-    ensures unwritten { IsErrOf result Stopped.NoMemory → sink.new ≡ sink.old }
-{
-    let text = bad_founding_line(alloc, number)?;
-    write_all(sink, text.as_bytes())?;
-    Err(Stopped::NotFounded)
-}
-
-/// Reads a founding text, and answers the lines that follow it.
-fn trial<S: Source, K: Sink, C: Clock>(
-    alloc: Global,
-    source: &mut S,
-    sink: &mut K,
-    clock: &mut C,
-) -> Result<(), Stopped>
-    ensures command { IsErrOf result Stopped.NotACommand → ⊥ }
-    ensures trial { Trial (status_of result) (S.left source.old) (S.left source.new) (C.told clock.old) (C.told clock.new)
-        (K.written sink.old) (K.written sink.new) }
-    ensures unwritten { IsErrOf result Stopped.NoMemory → sink.new ≡ sink.old }
-    ensures untold { IsErrOf result Stopped.NoMemory ⊎ IsErrOf result Stopped.NotFounded → clock.new ≡ clock.old }
-    ensures reason { HasReason (status_of result) (S.faults source.old) (S.faults source.new) (K.faults sink.old) (K.faults sink.new) }
-    ensures bounded { Known (S.left source.old) (S.left source.new) (IsBounded (status_of result)) }
-{
-    let mut lines = LineReader::new(alloc)?;
-    match founding::read(alloc, &mut lines, source) {
-        Ok(mut universe) => answer_lines(alloc, &mut universe, &mut lines, source, clock, sink),
-        Err(FoundingFault::Bad { line }) => name_bad_line(alloc, line, sink),
-        Err(FoundingFault::ReadFault) => Err(Stopped::SourceFault),
-        Err(FoundingFault::Spent) => Err(Stopped::TooLong),
-        Err(FoundingFault::Memory) => Err(Stopped::NoMemory),
+    match words {
+        [first, second] => {
+            is_same(first.as_bytes(), b"trial") && is_same(second.as_bytes(), b"dump")
+        }
+        _ => false,
     }
 }
 
 /// Does the command that the words spell, and returns its status.
 ///
-/// The one command is `trial`: it reads a founding text from the source, and then answers each line that follows. The clock is
-/// read once for each line that asks for something and names no reading.
+/// `trial` reads a founding text from the source, and then answers each line that follows. `trial dump` does the same, and then
+/// writes the text of the whole universe. The clock is read once for each line that asks for something and names no reading.
 pub fn run<S: Source, K: Sink, C: Clock>(
     alloc: Global,
     words: &[String],
@@ -87,7 +47,8 @@ pub fn run<S: Source, K: Sink, C: Clock>(
     ensures statuses { IsStatus result }
 
     // The words decide whether there is a command; without one nothing is read or written.
-    ensures not_a_command { (result ≡ NOT_A_COMMAND) ↔ (IsTrial (map string_bytes words.now) → ⊥) }
+    ensures not_a_command { (result ≡ NOT_A_COMMAND)
+        ↔ (IsTrial (map string_bytes words.now) ⊎ IsTrialDump (map string_bytes words.now) → ⊥) }
     ensures untouched { result ≡ NOT_A_COMMAND
         → (source.new ≡ source.old) × (sink.new ≡ sink.old) × (clock.new ≡ clock.old) }
 
@@ -97,12 +58,25 @@ pub fn run<S: Source, K: Sink, C: Clock>(
     ensures trial_unwritten { IsTrial (map string_bytes words.now) → result ≡ NO_MEMORY → sink.new ≡ sink.old }
     ensures trial_untold { IsTrial (map string_bytes words.now) → (result ≡ NO_MEMORY) ⊎ (result ≡ NOT_FOUNDED) → clock.new ≡ clock.old }
 
+    // `trial dump`: the same, and after the answers the text of the universe. Out of memory, nothing was written, or all answers
+    // and no more.
+    ensures dump { IsTrialDump (map string_bytes words.now) → TrialDump result (S.left source.old) (S.left source.new)
+        (C.told clock.old) (C.told clock.new) (K.written sink.old) (K.written sink.new) }
+    ensures dump_memory { IsTrialDump (map string_bytes words.now) → result ≡ NO_MEMORY
+        → ((sink.new ≡ sink.old) × (clock.new ≡ clock.old))
+        ⊎ Known (S.left source.old) (S.left source.new) (λ text more.
+        Tried text more (C.told clock.old) (C.told clock.new) (K.written sink.old) (K.written sink.new)) }
+    ensures dump_untold { IsTrialDump (map string_bytes words.now) → result ≡ NOT_FOUNDED → clock.new ≡ clock.old }
+
     // Any command: what causes each status, and how much is taken of the source.
     ensures reason { HasReason result (S.faults source.old) (S.faults source.new) (K.faults sink.old) (K.faults sink.new) }
     ensures bounded { Known (S.left source.old) (S.left source.new) (IsBounded result) }
 {
-    if !is_trial(words) {
-        return exit_status(Err(Stopped::NotACommand));
+    if is_trial(words) {
+        return exit_status(trial(alloc, source, sink, clock));
     }
-    exit_status(trial(alloc, source, sink, clock))
+    if is_trial_dump(words) {
+        return exit_status(trial_dump(alloc, source, sink, clock));
+    }
+    exit_status(Err(Stopped::NotACommand))
 }

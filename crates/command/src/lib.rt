@@ -2,15 +2,14 @@
 #![tactic(auto)]
 
 mod answering;
-mod asking;
 mod commands;
 mod status;
 mod streams;
 #[cfg(test)]
 mod tests;
+mod trials;
 
 pub use answering::{Answer, answer_lines};
-pub use asking::answer;
 pub use commands::run;
 pub use status::{
     DONE, NO_MEMORY, NOT_A_COMMAND, NOT_FOUNDED, SINK_FAULT, SOURCE_FAULT, Stopped, TOO_LONG,

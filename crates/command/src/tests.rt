@@ -1,15 +1,13 @@
 ghost use Rattle.std.specs.Prelude.{None};
 
-use crate::{DONE, NOT_A_COMMAND, NOT_FOUNDED, SINK_FAULT, SOURCE_FAULT, answer, run};
-use base_ids::{Coord, Player};
-use base_text::Bytes;
+mod buildings;
+mod dumps;
+
+use crate::{DONE, NOT_A_COMMAND, NOT_FOUNDED, SINK_FAULT, SOURCE_FAULT, run};
 use ports::{Failed, MemoryClock, MemorySink, MemorySource, Sink, Source};
-use reply_text::write_reply;
-use request_text::{LineReader, Request};
 use std::alloc::{AllocError, Global};
 use std::cell::Cell;
 use std::test::Fail;
-use strict_model::StrictUniverse;
 
 /// A universe at speed 1 and second 0, with player 1 and a planet at 1:1:1.
 const FOUNDING: &[u8] = b"universe 7 1 1000 0\nplayer 1\nplanet 1:1:1 1 40 163\n.\n";
@@ -21,6 +19,17 @@ fn text_of(alloc: Global, script: &[u8]) -> Result<Vec<u8>, AllocError> {
     Ok(text)
 }
 
+/// The words of a line that are not empty.
+fn words_of(alloc: Global, line: &str) -> Result<Vec<String>, AllocError> {
+    let mut words = Vec::new(alloc);
+    for word in line.split(' ') {
+        if !word.is_empty() {
+            words.push(String::from_str(alloc, word)?)?;
+        }
+    }
+    Ok(words)
+}
+
 /// Runs `trial` over an input that comes in pieces of at most `most` bytes.
 fn tried<'a>(
     alloc: Global,
@@ -29,7 +38,7 @@ fn tried<'a>(
     failing_reads: &[u64],
     failing_writes: &'a [u64],
 ) -> Result<(u8, MemorySink<'a>), AllocError> {
-    let words = vec![in alloc; String::from_str(alloc, "trial")?]?;
+    let words = words_of(alloc, "trial")?;
     let mut source = MemorySource::new(input, failing_reads).in_pieces(most);
     let mut sink = MemorySink::new(alloc, failing_writes);
     let mut clock = MemoryClock::new(&[]);
@@ -100,7 +109,7 @@ const SHORT_ANSWERS: [Answers; 12] = [
         b"bad 1\nbad 1\nbad 1\n",
     ),
     (
-        b"@1 1 account\n@1 1 build 1:1:1 metalmine\n@1 1 send 1:1:1 1:1:2 deploy 10 probe=1 0 0 0\n",
+        b"@1 1 account\n@1 1 research 1:1:1 combustion\n@1 1 send 1:1:1 1:1:2 deploy 10 probe=1 0 0 0\n",
         b"bad 1\nbad 1\nbad 1\n",
     ),
     (
@@ -217,15 +226,19 @@ fn founding_texts_at_the_ends_of_their_ranges(rt: HostRuntime) -> Result<(), Fai
 }
 
 #[test]
-fn other_words_than_trial_have_2_and_read_nothing(rt: HostRuntime) -> Result<(), Fail> {
+fn other_words_than_a_command_have_2_and_read_nothing(rt: HostRuntime) -> Result<(), Fail> {
     let alloc = rt.alloc();
-    for line in ["", "play", "trial dump", "trial trial", "Trial", "trial "] {
-        let mut words = Vec::new(alloc);
-        if !line.is_empty() {
-            for word in line.split(' ') {
-                words.push(String::from_str(alloc, word)?)?;
-            }
-        }
+    for line in [
+        "",
+        "play",
+        "dump",
+        "dump trial",
+        "trial trial",
+        "trial Dump",
+        "trial dump dump",
+        "Trial",
+    ] {
+        let words = words_of(alloc, line)?;
         let mut source = MemorySource::new(FOUNDING, &[]);
         let mut sink = MemorySink::new(alloc, &[]);
         let mut clock = MemoryClock::new(&[]);
@@ -266,7 +279,7 @@ fn answers_at<'a>(
     readings: &'a [u64],
 ) -> Result<(u8, MemorySink<'static>, MemoryClock<'a>), AllocError> {
     let input = text_of(alloc, script)?;
-    let words = vec![in alloc; String::from_str(alloc, "trial")?]?;
+    let words = words_of(alloc, "trial")?;
     let mut source = MemorySource::new(&input, &[]);
     let mut sink = MemorySink::new(alloc, &[]);
     let mut clock = MemoryClock::new(readings);
@@ -306,13 +319,12 @@ fn a_line_of_401_bytes_is_bad_2(rt: HostRuntime) -> Result<(), Fail> {
     Ok(())
 }
 
-#[test]
-fn ten_thousand_players_are_founded_and_one_planet_is_asked(rt: HostRuntime) -> Result<(), Fail> {
-    let alloc = rt.alloc();
-    let mut input = Vec::from_slice(alloc, b"universe 7 1 1000 0\n")?;
+/// The text of a founding with 10000 players and 20000 planets, and a dot behind it.
+fn full_founding(alloc: Global) -> Result<Vec<u8>, Fail> {
+    let mut text = Vec::from_slice(alloc, b"universe 7 1 1000 0\n")?;
     for k in 1..10_001u32 {
         let line = format!(in alloc; "player {k}\n")?;
-        input.extend_from_slice(line.as_bytes())?;
+        text.extend_from_slice(line.as_bytes())?;
     }
     for k in 0..20_000u32 {
         let owner = k / 2 + 1;
@@ -320,14 +332,39 @@ fn ten_thousand_players_are_founded_and_one_planet_is_asked(rt: HostRuntime) -> 
         let galaxy = k / 15 / 499 + 1;
         let position = k % 15 + 1;
         let line = format!(in alloc; "planet {galaxy}:{system}:{position} {owner} 40 163\n")?;
-        input.extend_from_slice(line.as_bytes())?;
+        text.extend_from_slice(line.as_bytes())?;
     }
-    input.extend_from_slice(b".\n@3600 10000 planet 3:336:5\n@3600 9999 planet 3:336:5\n")?;
+    text.extend_from_slice(b".\n")?;
+    Ok(text)
+}
+
+#[test]
+fn one_planet_of_twenty_thousand_is_asked(rt: HostRuntime) -> Result<(), Fail> {
+    let alloc = rt.alloc();
+    let mut input = full_founding(alloc)?;
+    input.extend_from_slice(b"@3600 10000 planet 3:336:5\n@3600 9999 planet 3:336:5\n")?;
     let (status, sink) = tried(alloc, &input, usize::MAX, &[], &[])?;
     assert_eq!(rt; status, DONE);
     let wanted =
         b"ok 1 3600\nplanet 3:336:5 10000 40 163 0\nstock 520 510 0\nhourly 20 10 0\nlimit 10000 10000 10000\nenergy 0 0\ndebris 0 0\n.\nno 2 3600 3\n";
     assert_eq!(rt; sink.written(), wanted.as_slice());
+    Ok(())
+}
+
+#[test]
+fn one_planet_of_twenty_thousand_is_asked_often(rt: HostRuntime) -> Result<(), Fail> {
+    let alloc = rt.alloc();
+    let mut input = full_founding(alloc)?;
+    for tens in 1..20_001u32 {
+        let second = tens * 10;
+        let line = format!(in alloc; "@{second} 1 planet 1:1:1\n")?;
+        input.extend_from_slice(line.as_bytes())?;
+    }
+    let (status, sink) = tried(alloc, &input, usize::MAX, &[], &[])?;
+    assert_eq!(rt; status, DONE);
+    let last =
+        b"ok 20000 200000\nplanet 1:1:1 1 40 163 0\nstock 1611 1055 0\nhourly 20 10 0\nlimit 10000 10000 10000\nenergy 0 0\ndebris 0 0\n.\n";
+    assert!(rt; sink.written().ends_with(last.as_slice()));
     Ok(())
 }
 
@@ -352,7 +389,7 @@ fn bytes_come_and_go_in_pieces_of_any_size(rt: HostRuntime) -> Result<(), Fail> 
     let (status, whole) = tried(alloc, &input, usize::MAX, &[], &[])?;
     assert_eq!(rt; status, DONE);
     for most in 1..20 {
-        let words = vec![in alloc; String::from_str(alloc, "trial")?]?;
+        let words = words_of(alloc, "trial")?;
         let mut source = MemorySource::new(&input, &[]).in_pieces(most);
         let mut sink = MemorySink::new(alloc, &[]).in_pieces(most);
         let mut clock = MemoryClock::new(&[]);
@@ -360,62 +397,6 @@ fn bytes_come_and_go_in_pieces_of_any_size(rt: HostRuntime) -> Result<(), Fail> 
         assert_eq!(rt; status, DONE);
         assert_eq!(rt; sink.written(), whole.written());
     }
-    Ok(())
-}
-
-/// The universe that the founding text founds.
-fn fresh(alloc: Global) -> Result<StrictUniverse, Fail> {
-    let mut lines = LineReader::new(alloc)?;
-    let mut source = MemorySource::new(FOUNDING, &[]);
-    Ok(founding::read(alloc, &mut lines, &mut source)?)
-}
-
-#[test]
-fn the_closed_form_answers_as_the_universe_that_ticks(rt: HostRuntime) -> Result<(), Fail> {
-    let alloc = rt.alloc();
-    let mut fast = fresh(alloc)?;
-    let mut ticking = fresh(alloc)?;
-    let mut quick = Bytes::new(alloc);
-    let here = Coord { g: 1, s: 1, p: 1 };
-    let there = Coord { g: 1, s: 1, p: 2 };
-    let calls = [
-        (0, 1, here),
-        (1, 1, here),
-        (180, 2, here),
-        (90, 1, there),
-        (3601, 1, here),
-        (3600, 1, here),
-        (5000, 1, here),
-    ];
-    for (reading, k, at) in calls {
-        assert!(rt; reading < 10_000 && k > 0 && k < 10);
-        assert!(rt; fast.number < 1000 && ticking.number < 1000);
-        let player = Player { k };
-        let req = Request::Planet(at);
-        answer(alloc, &mut fast, player, &req, reading, &mut quick)?;
-        let reply = strict_model::ask(alloc, &mut ticking, player, &req, reading)?;
-        let mut slow = Bytes::new(alloc);
-        write_reply(&mut slow, &reply)?;
-        assert!(rt; quick == slow);
-        assert_eq!(rt; (fast.number, fast.moment), (reply.number, reply.moment));
-    }
-    Ok(())
-}
-
-#[test]
-fn two_hundred_thousand_requests_are_answered(rt: HostRuntime) -> Result<(), Fail> {
-    let alloc = rt.alloc();
-    let mut script = Vec::new(alloc);
-    for second in 1..200_001u32 {
-        let line = format!(in alloc; "@{second} 2 planet 1:1:1\n")?;
-        script.extend_from_slice(line.as_bytes())?;
-    }
-    let (status, sink) = answers_to(alloc, &script)?;
-    assert_eq!(rt; status, DONE);
-    assert!(rt;
-        sink.written()
-            .ends_with(b"no 199999 199999 1\nno 200000 200000 1\n")
-    );
     Ok(())
 }
 
@@ -481,7 +462,7 @@ fn each_line_is_answered_before_the_next_is_read(rt: HostRuntime) -> Result<(), 
     };
     let mut sink = Counting { answers: &answers };
     let mut clock = MemoryClock::new(&[]);
-    let words = vec![in alloc; String::from_str(alloc, "trial")?]?;
+    let words = words_of(alloc, "trial")?;
     let status = run(alloc, &words, &mut source, &mut sink, &mut clock);
     assert_eq!(rt; (status, answers.get()), (DONE, 3));
     Ok(())

@@ -3,23 +3,24 @@ use Rattle.std.proofs.Common.{◌≡◌, ℕ, ◌<◌, ◌≤◌, true, false, L
 use Rattle.base_text.specs.Parts.{words}
 use Rattle.base_ids.specs.declared.player.Player.{Player}
 use Rattle.request_text.specs.declared.line_reader.TheConstants.{LONGEST_LINE}
-use Rattle.strict_model.specs.Universe.{PlanetFields}
-use Rattle.founding.specs.Drafts.{first_fields, is_named, is_taken, planet_before, planets_of, put, Adds, Drafted, Gives, Names}
-use Rattle.founding.specs.Lines.{planet_words, player_words}
+use Rattle.founding.specs.Drafts.{first_planet, is_named, is_taken, planet_before, planets_of, put, Adds, DraftPlanet, Drafted, Gives, Names, Raises, Stocks}
+use Rattle.founding.specs.Lines.{level_words, planet_words, player_words, stock_words}
 use Rattle.founding.specs.declared.draft.TheConstants.{MOST_OWNED}
-use Rattle.founding.specs.declared.new_planet.NewPlanet.{NewPlanet}
-use Rattle.founding.proofs.Wording.{one_form, one_planet, one_player}
+use Rattle.founding.specs.declared.named.NewLevel.{NewLevel}
+use Rattle.founding.specs.declared.named.NewPlanet.{NewPlanet}
+use Rattle.founding.specs.declared.named.NewStock.{NewStock}
+use Rattle.founding.proofs.Wording.{no_planet_level, no_planet_stock, no_player_level, no_player_planet, no_player_stock, no_stock_level, one_level, one_planet, one_player, one_stock}
 
--- a planet may stand where another one with the same fields may
-gives_too : (draft : Drafted) (a b : NewPlanet) (new : Drafted) → first_fields a ≡ first_fields b → Gives draft a new → Gives draft b new
+-- a planet may stand where another one may that is founded the same
+gives_too : (draft : Drafted) (a b : NewPlanet) (new : Drafted) → first_planet a ≡ first_planet b → Gives draft a new → Gives draft b new
 gives_too draft a b new same (may, added) = (
   record {
-    free = subst (λ (f : PlanetFields). is_taken f.at draft.planets ≡ false) same may.free;
-    named = subst (λ (f : PlanetFields). is_named f.owner draft.players ≡ true) same may.named;
-    fewer = subst (λ (f : PlanetFields). planets_of f.owner draft.planets < MOST_OWNED) same may.fewer;
+    free = subst (λ (p : DraftPlanet). is_taken p.at draft.planets ≡ false) same may.free;
+    named = subst (λ (p : DraftPlanet). is_named p.own.owner draft.players ≡ true) same may.named;
+    fewer = subst (λ (p : DraftPlanet). planets_of p.own.owner draft.planets < MOST_OWNED) same may.fewer;
     room = may.room;
   },
-  added ∙ ap (λ f. record draft { planets = put planet_before f draft.planets }) same,
+  added ∙ ap (λ p. record draft { planets = put planet_before p draft.planets }) same,
 )
 
 -- a line that names a player
@@ -28,12 +29,36 @@ player_adds draft line player short spells new names = inl (record { value = pla
 
 pub player_alone : (draft : Drafted) (line : List ℕ) (player : Player) → words line ≡ player_words player → (new : Drafted) → Adds (Some draft) line new → Names draft player new
 player_alone draft line player spells new (inl says) = subst (λ (p : Player). Names draft p new) (one_player (words line) says.value player says.spelled.spells spells) says.makes
-player_alone draft line player spells new (inr says) = absurd (one_form (words line) player says.value spells says.spelled.spells)
+player_alone draft line player spells new (inr (inl says)) = absurd (no_player_planet (words line) player says.value spells says.spelled.spells)
+player_alone draft line player spells new (inr (inr (inl says))) = absurd (no_player_stock (words line) player says.value spells says.spelled.spells)
+player_alone draft line player spells new (inr (inr (inr says))) = absurd (no_player_level (words line) player says.value spells says.spelled.spells)
 
 -- a line that gives a planet
 pub planet_adds : (draft : Drafted) (line : List ℕ) (planet : NewPlanet) → length line ≤ LONGEST_LINE → words line ≡ planet_words planet → (new : Drafted) → Gives draft planet new → Adds (Some draft) line new
-planet_adds draft line planet short spells new gives = inr (record { value = planet; spelled = record { short = short; spells = spells }; makes = gives })
+planet_adds draft line planet short spells new gives = inr (inl (record { value = planet; spelled = record { short = short; spells = spells }; makes = gives }))
 
 pub planet_alone : (draft : Drafted) (line : List ℕ) (planet : NewPlanet) → words line ≡ planet_words planet → (new : Drafted) → Adds (Some draft) line new → Gives draft planet new
-planet_alone draft line planet spells new (inl says) = absurd (one_form (words line) says.value planet says.spelled.spells spells)
-planet_alone draft line planet spells new (inr says) = gives_too draft says.value planet new (one_planet (words line) says.value planet says.spelled.spells spells) says.makes
+planet_alone draft line planet spells new (inl says) = absurd (no_player_planet (words line) says.value planet says.spelled.spells spells)
+planet_alone draft line planet spells new (inr (inl says)) = gives_too draft says.value planet new (one_planet (words line) says.value planet says.spelled.spells spells) says.makes
+planet_alone draft line planet spells new (inr (inr (inl says))) = absurd (no_planet_stock (words line) planet says.value spells says.spelled.spells)
+planet_alone draft line planet spells new (inr (inr (inr says))) = absurd (no_planet_level (words line) planet says.value spells says.spelled.spells)
+
+-- a line that says a stock
+pub stock_adds : (draft : Drafted) (line : List ℕ) (stock : NewStock) → length line ≤ LONGEST_LINE → words line ≡ stock_words stock → (new : Drafted) → Stocks draft stock new → Adds (Some draft) line new
+stock_adds draft line stock short spells new stocks = inr (inr (inl (record { value = stock; spelled = record { short = short; spells = spells }; makes = stocks })))
+
+pub stock_alone : (draft : Drafted) (line : List ℕ) (stock : NewStock) → words line ≡ stock_words stock → (new : Drafted) → Adds (Some draft) line new → Stocks draft stock new
+stock_alone draft line stock spells new (inl says) = absurd (no_player_stock (words line) says.value stock says.spelled.spells spells)
+stock_alone draft line stock spells new (inr (inl says)) = absurd (no_planet_stock (words line) says.value stock says.spelled.spells spells)
+stock_alone draft line stock spells new (inr (inr (inl says))) = subst (λ (s : NewStock). Stocks draft s new) (one_stock (words line) says.value stock says.spelled.spells spells) says.makes
+stock_alone draft line stock spells new (inr (inr (inr says))) = absurd (no_stock_level (words line) stock says.value spells says.spelled.spells)
+
+-- a line that says a level
+pub level_adds : (draft : Drafted) (line : List ℕ) (level : NewLevel) → length line ≤ LONGEST_LINE → words line ≡ level_words level → (new : Drafted) → Raises draft level new → Adds (Some draft) line new
+level_adds draft line level short spells new raises = inr (inr (inr (record { value = level; spelled = record { short = short; spells = spells }; makes = raises })))
+
+pub level_alone : (draft : Drafted) (line : List ℕ) (level : NewLevel) → words line ≡ level_words level → (new : Drafted) → Adds (Some draft) line new → Raises draft level new
+level_alone draft line level spells new (inl says) = absurd (no_player_level (words line) says.value level says.spelled.spells spells)
+level_alone draft line level spells new (inr (inl says)) = absurd (no_planet_level (words line) says.value level says.spelled.spells spells)
+level_alone draft line level spells new (inr (inr (inl says))) = absurd (no_stock_level (words line) says.value level says.spelled.spells spells)
+level_alone draft line level spells new (inr (inr (inr says))) = subst (λ (l : NewLevel). Raises draft l new) (one_level (words line) says.value level says.spelled.spells spells) says.makes

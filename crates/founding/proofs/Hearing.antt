@@ -12,9 +12,10 @@ use Rattle.request_text.specs.declared.line_reader.Stop.{Stop}
 use Rattle.request_text.specs.declared.line_reader.Stop.TheVariants.{Fault as AtFault, Spent as AtBound}
 use Rattle.request_text.specs.declared.line_reader.LineReader.{LineReader}
 use Rattle.request_text.specs.declared.line_reader.TheConstants.{LONGEST_LINE}
-use Rattle.strict_model.specs.Strict.{universe_of}
-use Rattle.strict_model.specs.declared.strict.StrictUniverse.{StrictUniverse}
-use Rattle.founding.specs.Drafts.{founded, Adds, AddsNothing, Drafted, Grows}
+use Rattle.base_bytes.specs.Base.{universe_of}
+use Rattle.base_bytes.specs.declared.base.Base.{Base}
+use Rattle.founding.specs.Drafts.{Adds, AddsNothing, Drafted, Grows}
+use Rattle.founding.specs.Founded.{founded}
 use Rattle.founding.specs.Founding.{IsBadNext, IsEnd, IsUnfinished}
 use Rattle.founding.specs.DraftMaps.{draft_of}
 use Rattle.founding.specs.Lines.{heading_words}
@@ -57,11 +58,11 @@ drawn-line said new number reader after left more text line before adds follows 
     }
 
 -- the lines end with a `.`
-pub drawn-ended : (draft : Drafted) (universe : StrictUniverse) (number : ℕ) (reader after : LineReader) (left more text : List ℕ) (before : Drawn (Some draft) number reader left text) → universe_of universe ≡ founded draft
-    → Follows after more before.rest (codes ".") → Reads text after more (Ok universe)
-drawn-ended draft universe number reader after left more text before founds follows = (
+pub drawn-ended : (draft : Drafted) (base : Base) (number : ℕ) (reader after : LineReader) (left more text : List ℕ) (before : Drawn (Some draft) number reader left text) → universe_of base ≡ founded draft → base.capacity ≡ draft.heading.capacity
+    → Follows after more before.rest (codes ".") → Reads text after more (Ok base)
+drawn-ended draft base number reader after left more text before founds keeps follows = (
   follows.rest,
-  record { good = before.good; draft = draft; parts = heard-lines text before.rest before.good before.heard ∙ ap (λ r. before.good ++ r) follows.first; grows = before.grows; founds = founds },
+  record { good = before.good; draft = draft; parts = heard-lines text before.rest before.good before.heard ∙ ap (λ r. before.good ++ r) follows.first; grows = before.grows; founds = founds; keeps = keeps },
   follows.sees,
 )
 
@@ -103,7 +104,9 @@ step-stops old new OutOfMemory number reader left text line other (some, same) f
 nothing_long : (said : Option Drafted) (line : List ℕ) → LONGEST_LINE < length line → AddsNothing said line
 nothing_long None line long new says = let short = says.spelled.short in omega (arith, long, short)
 nothing_long (Some draft) line long new (inl says) = let short = says.spelled.short in omega (arith, long, short)
-nothing_long (Some draft) line long new (inr says) = let short = says.spelled.short in omega (arith, long, short)
+nothing_long (Some draft) line long new (inr (inl says)) = let short = says.spelled.short in omega (arith, long, short)
+nothing_long (Some draft) line long new (inr (inr (inl says))) = let short = says.spelled.short in omega (arith, long, short)
+nothing_long (Some draft) line long new (inr (inr (inr says))) = let short = says.spelled.short in omega (arith, long, short)
 
 no_end : (said : Option Drafted) (line : List ℕ) → LONGEST_LINE < length line → IsEnd said line → ⊥
 no_end None line long ended = ended
@@ -134,6 +137,6 @@ pub only_fault : {A : Type 0} (result : Result A FoundingFault) (fault : Foundin
 only_fault (Ok done) fault P Q failed brings = absurd failed
 only_fault (Err f) fault P Q failed brings = subst Q (sym failed) brings
 
-pub reads-fault : (text : List ℕ) (reader : LineReader) (left : List ℕ) (result : Result StrictUniverse FoundingFault) (fault : FoundingFault) → IsErrAnd result (λ f. f ≡ fault) → Reads text reader left (Err fault) → Reads text reader left result
-reads-fault text reader left (Ok universe) fault failed reads = absurd failed
+pub reads-fault : (text : List ℕ) (reader : LineReader) (left : List ℕ) (result : Result Base FoundingFault) (fault : FoundingFault) → IsErrAnd result (λ f. f ≡ fault) → Reads text reader left (Err fault) → Reads text reader left result
+reads-fault text reader left (Ok base) fault failed reads = absurd failed
 reads-fault text reader left (Err f) fault failed reads = subst (λ (x : FoundingFault). Reads text reader left (Err x)) (sym failed) reads

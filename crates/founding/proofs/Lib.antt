@@ -1,9 +1,16 @@
 pub mod Wording
 pub mod Putting
 pub mod Mapping
+pub mod Orders
 pub mod Finding
 pub mod Stepping
 pub mod Forms
 pub mod Once
 pub mod Rising
+pub mod Places
+pub mod Keeping
+pub mod Judging
+pub mod Ending
+pub mod Listed
+pub mod Soundness
 pub mod Hearing

@@ -1,6 +1,7 @@
 -- What a map of std says of the list that it is kept for.
 use Rattle.std.proofs.Common.{◌≡◌, Bool, true, false, cond, List, [], ◌∷◌, ap, ◌∙◌, sym, refl, Option, Some, None}
-use Rattle.std.specs.Prelude.{if◌then◌else◌, ◌||◌, is_some, map}
+use Rattle.std.specs.Prelude.{if◌then◌else◌, ◌||◌, find, is_some, map}
+use Rattle.std.specs.Option.{option_map}
 use Rattle.std.specs.BTreeMap.{insert_entry, is_at}
 use Rattle.std.specs.List.{list_any, AllByRecursion}
 use Rattle.std.specs.Map.{lookup}
@@ -19,6 +20,17 @@ list_any-lookup at test shown [] agrees = refl
 list_any-lookup at test shown (e ∷ es) (first, later) =
     ap (λ b. b || list_any test (map shown es)) first
     ∙ some_cases (at e.0) e.1 (lookup at es) (list_any test (map shown es)) (list_any-lookup at test shown es later)
+
+found_cases : {X A : Type 0} (f : X → A) (b c : Bool) (x : X) (rest : Option X) (others : Option A) → c ≡ b → others ≡ option_map f rest → cond c (Some (f x)) others ≡ option_map f (cond b (Some x) rest)
+found_cases f true c x rest others same more = ap (λ d. cond d (Some (f x)) others) same
+found_cases f false c x rest others same more = ap (λ d. cond d (Some (f x)) others) same ∙ more
+
+-- What is found in the list is what the map has at the key, if it has something there.
+pub find-lookup : {K X A : Type 0} (at : K → Bool) (test : A → Bool) (f : X → A) (entries : List (K × X)) → AllByRecursion (λ e. test (f e.1) ≡ at e.0) entries
+    → find test (map (λ (e : K × X). f e.1) entries) ≡ option_map f (lookup at entries)
+find-lookup at test f [] agrees = refl
+find-lookup {K} {X} at test f (e ∷ es) (first, later) =
+    found_cases f (at e.0) (test (f e.1)) e.1 (lookup at es) (find test (map (λ (x : K × X). f x.1) es)) first (find-lookup at test f es later)
 
 absent_first : {X : Type 0} (b : Bool) (x : X) (rest : Option X) → cond b (Some x) rest ≡ None → b ≡ false
 absent_first true x rest none = absurd (cc none)

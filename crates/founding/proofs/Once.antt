@@ -2,16 +2,35 @@
 use Rattle.std.proofs.Common.{◌≡◌, ℕ, ◌+◌, ◌<◌, ◌≤◌, List, [], ◌∷◌, ◌++◌, length, refl, ap, ◌∙◌, sym, subst, arith, inl, inr, Option, Some, None, append_assoc, length-append}
 use Rattle.std.specs.Prelude.{codes, ⊤}
 use Rattle.base_text.specs.Parts.{words}
-use Rattle.strict_model.specs.Universe.{Universe}
-use Rattle.founding.specs.Drafts.{begun, founded, Adds, AddsNothing, Drafted, Grows}
+use Rattle.tick_model.specs.Universe.{Universe}
+use Rattle.founding.specs.Drafts.{begun, raised_to, replaced, stocked_with, Adds, AddsNothing, DraftPlanet, Drafted, Grows, Raises, Stocks}
+use Rattle.founding.specs.Founded.{founded}
 use Rattle.founding.specs.Founding.{Founds, IsBadAt, IsBadNext, NeedsMemory, TakesMemory}
 use Rattle.founding.proofs.Hearing.{grows-more}
-use Rattle.founding.proofs.Forms.{planet_alone, player_alone}
+use Rattle.founding.proofs.Forms.{level_alone, planet_alone, player_alone, stock_alone}
+use Rattle.founding.specs.declared.named.NewLevel.{NewLevel}
+use Rattle.founding.specs.declared.named.NewStock.{NewStock}
 use Rattle.founding.proofs.Wording.{one_heading}
+
+stocks_once : (draft : Drafted) (stock : NewStock) (a b : Drafted) → Stocks draft stock a → Stocks draft stock b → a ≡ b
+stocks_once draft stock a b (planet, may, is) (other, may_other, is_other) =
+    let first = may.stands in
+    let second = may_other.stands in
+    let one : planet ≡ other = cc in
+    is ∙ ap (λ (p : DraftPlanet). record draft { planets = replaced (stocked_with stock p) draft.planets }) one ∙ sym is_other
+
+raises_once : (draft : Drafted) (level : NewLevel) (a b : Drafted) → Raises draft level a → Raises draft level b → a ≡ b
+raises_once draft level a b (planet, may, is) (other, may_other, is_other) =
+    let first = may.stands in
+    let second = may_other.stands in
+    let one : planet ≡ other = cc in
+    is ∙ ap (λ (p : DraftPlanet). record draft { planets = replaced (raised_to level p) draft.planets }) one ∙ sym is_other
 
 names_once : (draft : Drafted) (line : List ℕ) (a b : Drafted) (p : Adds (Some draft) line a) → Adds (Some draft) line b → a ≡ b
 names_once draft line a b (inl says) other = let same = player_alone draft line says.value says.spelled.spells b other in says.makes.1 ∙ sym same.1
-names_once draft line a b (inr says) other = let same = planet_alone draft line says.value says.spelled.spells b other in says.makes.1 ∙ sym same.1
+names_once draft line a b (inr (inl says)) other = let same = planet_alone draft line says.value says.spelled.spells b other in says.makes.1 ∙ sym same.1
+names_once draft line a b (inr (inr (inl says))) other = stocks_once draft says.value a b says.makes (stock_alone draft line says.value says.spelled.spells b other)
+names_once draft line a b (inr (inr (inr says))) other = raises_once draft says.value a b says.makes (level_alone draft line says.value says.spelled.spells b other)
 
 -- a line adds in one way
 adds_once : (said : Option Drafted) (line : List ℕ) (a b : Drafted) → Adds said line a → Adds said line b → a ≡ b
@@ -30,7 +49,9 @@ bad_ends said (line ∷ later) bad = bad.1
 
 dot_nothing : (draft new : Drafted) → Adds (Some draft) (codes ".") new → ⊥
 dot_nothing draft new (inl says) = let e = ap length says.spelled.spells in omega (arith, e)
-dot_nothing draft new (inr says) = let e = ap length says.spelled.spells in omega (arith, e)
+dot_nothing draft new (inr (inl says)) = let e = ap length says.spelled.spells in omega (arith, e)
+dot_nothing draft new (inr (inr (inl says))) = let e = ap length says.spelled.spells in omega (arith, e)
+dot_nothing draft new (inr (inr (inr says))) = let e = ap length says.spelled.spells in omega (arith, e)
 
 dot_ends : (draft : Drafted) (script : List (List ℕ)) → Ends (Some draft) (codes "." ∷ script)
 unfolding Ends
@@ -60,15 +81,15 @@ stop_once start last last' (line ∷ later) (line' ∷ later') rest rest' same (
     let s = stop_once (Some next) last last' later later' rest rest' others grows (subst (λ (d : Drafted). Grows (Some d) later' last') one grows') ends ends' in
     record { front = (λ i. sym first i ∷ s.front i); draft = s.draft; back = s.back }
 
--- the lines found one universe, and leave one script
-pub founds_once : (lines : List (List ℕ)) (a b : Universe) (script other : List (List ℕ)) → Founds lines a script → Founds lines b other → (a ≡ b) × (script ≡ other)
-founds_once lines a b script other p q =
+-- the lines found one universe with one capacity, and leave one script
+pub founds_once : (lines : List (List ℕ)) (a b : Universe) (m n : ℕ) (script other : List (List ℕ)) → Founds lines a m script → Founds lines b n other → (a ≡ b) × (m ≡ n) × (script ≡ other)
+founds_once lines a b m n script other p q =
     let s = stop_once None (Some p.draft) (Some q.draft) p.good q.good (codes "." ∷ script) (codes "." ∷ other) (sym p.parts ∙ q.parts) p.grows q.grows (dot_ends p.draft script) (dot_ends q.draft other) in
     let back = s.back in
     let draft = s.draft in
     let scripts : script ≡ other = cc in
     let drafts : p.draft ≡ q.draft = cc in
-    (p.founds ∙ ap founded drafts ∙ sym q.founds, scripts)
+    (p.founds ∙ ap founded drafts ∙ sym q.founds, p.keeps ∙ ap (λ (d : Drafted). d.heading.capacity) drafts ∙ sym q.keeps, scripts)
 
 -- the lines have one first bad line
 pub bad_once : (lines : List (List ℕ)) (m n : ℕ) → IsBadAt lines m → IsBadAt lines n → m ≡ n
@@ -83,8 +104,8 @@ not_end draft said rest script one same bad =
     here.0 refl
 
 -- lines that found a universe have no bad one
-pub never_both : (lines : List (List ℕ)) (a : Universe) (script : List (List ℕ)) (n : ℕ) → Founds lines a script → IsBadAt lines n → ⊥
-never_both lines a script n p q =
+pub never_both : (lines : List (List ℕ)) (a : Universe) (capacity : ℕ) (script : List (List ℕ)) (n : ℕ) → Founds lines a capacity script → IsBadAt lines n → ⊥
+never_both lines a capacity script n p q =
     let s = stop_once None (Some p.draft) q.said p.good q.good (codes "." ∷ script) q.rest (sym p.parts ∙ q.parts) p.grows q.grows (dot_ends p.draft script) (bad_ends q.said q.rest q.bad) in
     not_end p.draft q.said q.rest script s.draft s.back q.bad
 

@@ -1,7 +1,8 @@
 -- What a list has after one more element is put in its place.
-use Rattle.std.proofs.Common.{◌≡◌, ℕ, ◌+◌, Bool, true, false, cond, List, [], ◌∷◌, length, ap, ◌∙◌, refl, arith}
-use Rattle.std.specs.Prelude.{count_by, if◌then◌else◌, ◌||◌}
-use Rattle.std.specs.List.{list_any}
+use Rattle.std.proofs.Common.{◌≡◌, ℕ, suc, ◌+◌, ◌≤◌, Bool, true, false, cond, not, List, [], ◌∷◌, length, None, Some, ap, ◌∙◌, refl, arith}
+use Rattle.std.specs.Prelude.{count_by, if◌then◌else◌, nat_lt, ◌||◌, unwrap_or}
+use Rattle.std.specs.List.{insert, list_any, position, position_or_len}
+use Rattle.std.proofs.lemmas.Bool.{ltb-false}
 use Rattle.std.proofs.lemmas.List.Sums.{sum_by-cons}
 use Rattle.founding.specs.Drafts.{put}
 
@@ -40,3 +41,35 @@ list_any-put test before new (x ∷ xs) = either (before new x) (list_any-put te
     either : (b : Bool) → list_any test (put before new xs) ≡ (test new || list_any test xs) → list_any test (if b then new ∷ x ∷ xs else x ∷ put before new xs) ≡ (test new || list_any test (x ∷ xs))
     either true rest = refl
     either false rest = ap (λ r. test x || r) rest ∙ or_swap (test x) (test new) (list_any test xs)
+
+inserted_first : {A : Type 0} (b : Bool) (new x : A) (xs rest : List A) (n : ℕ) → insert xs n new ≡ rest
+    → insert (x ∷ xs) (cond (not b) (1 + n) 0) new ≡ (if b then new ∷ x ∷ xs else x ∷ rest)
+inserted_first true new x xs rest n same = refl
+inserted_first false new x xs rest n same = let next : 1 + n ≡ suc n = omega arith in ap (λ k. insert (x ∷ xs) k new) next ∙ ap (λ l. x ∷ l) same
+
+-- an element that is inserted just before the first one that it comes before is put in its place
+put-inserted : {A : Type 0} (before : A → A → Bool) (new : A) (xs : List A) → insert xs (position_or_len (before new) xs) new ≡ put before new xs
+put-inserted before new [] = refl
+put-inserted before new (x ∷ xs) = inserted_first (before new x) new x xs (put before new xs) (position_or_len (before new) xs) (put-inserted before new xs)
+
+position-within : {A : Type 0} (p : A → Bool) (xs : List A) → position_or_len p xs ≤ length xs
+position-within p [] = omega arith
+position-within p (x ∷ xs) = either (p x) (position-within p xs)
+  where
+    either : (b : Bool) → position_or_len p xs ≤ length xs → cond (not b) (1 + position_or_len p xs) 0 ≤ length (x ∷ xs)
+    either true rest = omega arith
+    either false rest = omega (arith, rest)
+
+position-else : {A : Type 0} (p : A → Bool) (xs : List A) → unwrap_or (position p xs) (length xs) ≡ position_or_len p xs
+position-else p xs = either (nat_lt (position_or_len p xs) (length xs)) refl
+  where
+    either : (b : Bool) → nat_lt (position_or_len p xs) (length xs) ≡ b → unwrap_or (cond b (Some (position_or_len p xs)) None) (length xs) ≡ position_or_len p xs
+    either true below = refl
+    either false above = let most = position-within p xs in let least = ltb-false (position_or_len p xs) (length xs) above in omega (arith, most, least)
+
+-- the same by the position of that one, or at the end if there is none
+pub put-position : {A : Type 0} (before : A → A → Bool) (new : A) (xs : List A) → insert xs (unwrap_or (position (before new) xs) (length xs)) new ≡ put before new xs
+put-position before new xs = ap (λ n. insert xs n new) (position-else (before new) xs) ∙ put-inserted before new xs
+
+pub position-room : {A : Type 0} (p : A → Bool) (xs : List A) → unwrap_or (position p xs) (length xs) ≤ length xs
+position-room p xs = let same = position-else p xs in let most = position-within p xs in omega (arith, same, most)

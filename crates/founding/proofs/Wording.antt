@@ -1,5 +1,5 @@
 -- Lines of words: each form has its own words, and the words of a form have one value.
-use Rattle.std.proofs.Common.{◌≡◌, ℕ, ◌<◌, ◌≤◌, ◌^◌, pos, negsuc, ◌≤ℤ◌, List, [], ◌∷◌, length, refl, ap, ◌∙◌, sym, subst, arith, Option, Some, None}
+use Rattle.std.proofs.Common.{◌≡◌, ℕ, ◌<◌, ◌≤◌, ◌^◌, pos, negsuc, ◌≤ℤ◌, List, [], ◌∷◌, length, refl, ap, ◌∙◌, sym, subst, arith, rules, Option, Some, None}
 use Rattle.std.specs.Prelude.{codes, MatchOption}
 use Rattle.std.specs.Coded.{le_prop}
 use Rattle.std.specs.Fmt.{decimal, signed_decimal}
@@ -14,13 +14,31 @@ use Rattle.base_ids.proofs.Names.{coord_is, player_is}
 use Rattle.base_ids.specs.Text.{coord_text, player_text}
 use Rattle.base_ids.specs.declared.coord.Coord.{Coord}
 use Rattle.base_ids.specs.declared.player.Player.{Player}
+use Rattle.base_bytes.specs.declared.base.TheConstants.{MOST_REQUESTS}
+use Rattle.catalog.proofs.Values.{amounts_is, building_is}
+use Rattle.catalog.proofs.Words.{word_once}
+use Rattle.catalog.specs.declared.classes.Building.{Building}
+use Rattle.catalog.specs.Kinds.{kind_word}
+use Rattle.catalog.specs.Levels.{level_cap_of}
+use Rattle.catalog.specs.declared.amounts.TheConstants.{CAP}
+use Rattle.catalog.specs.declared.kind.Kind.{Kind}
 use Rattle.ports.specs.declared.clock.TheConstants.{LATEST}
-use Rattle.strict_model.specs.declared.rules.Rules.{Rules}
-use Rattle.founding.specs.Drafts.{first_fields}
-use Rattle.founding.specs.Lines.{heading_words, planet_words, player_words}
+use Rattle.tick_model.specs.declared.rules.Rules.{Rules}
+use Rattle.founding.specs.Drafts.{first_planet}
+use Rattle.founding.specs.Lines.{heading_words, level_words, planet_words, player_words, stock_words}
 use Rattle.founding.specs.declared.heading.Heading.{Heading}
-use Rattle.founding.specs.declared.heading.TheConstants.{MOST_REQUESTS}
-use Rattle.founding.specs.declared.new_planet.NewPlanet.{NewPlanet}
+use Rattle.founding.specs.declared.named.NewLevel.{NewLevel}
+use Rattle.founding.specs.declared.named.NewPlanet.{NewPlanet}
+use Rattle.founding.specs.declared.named.NewStock.{NewStock}
+
+-- a line whose fourth word is followed by another has no four words
+pub more_than_four : (a b c d p q r s rest : List ℕ) → p ∷ q ∷ r ∷ s ∷ words rest ≡ a ∷ b ∷ c ∷ d ∷ [] → ⊥
+more_than_four a b c d p q r s rest same =
+    let more = parts-more 32 rest in
+    let found : words rest ≡ more.0 ∷ more.1.0 = more.1.1 in
+    let none : words rest ≡ [] = cc in
+    let both : more.0 ∷ more.1.0 ≡ [] = sym found ∙ none in
+    cc
 
 -- a line whose fifth word is followed by another has no five words
 pub more_than_five : (a b c d e p q r s t rest : List ℕ) → p ∷ q ∷ r ∷ s ∷ t ∷ words rest ≡ a ∷ b ∷ c ∷ d ∷ e ∷ [] → ⊥
@@ -87,7 +105,7 @@ one_field_count a b same =
     decimal_injective a.fields b.fields small_a small_b text
 
 -- they found one planet
-pub one_planet : (line : List (List ℕ)) (a b : NewPlanet) → line ≡ planet_words a → line ≡ planet_words b → first_fields a ≡ first_fields b
+pub one_planet : (line : List (List ℕ)) (a b : NewPlanet) → line ≡ planet_words a → line ≡ planet_words b → first_planet a ≡ first_planet b
 one_planet line a b first second =
     let same : planet_words a ≡ planet_words b = sym first ∙ second in
     let place : coord_text a.at ≡ coord_text b.at = cc in
@@ -96,15 +114,78 @@ one_planet line a b first second =
     let owner = player_once a.owner b.owner name in
     let temperature = one_temperature a b same in
     let fields = one_field_count a b same in
-    λ i. record (first_fields a) { at = at i; owner = owner i; temperature = temperature i; fields = fields i }
+    λ i. record (first_planet a) { at = at i; own = record (first_planet a).own { owner = owner i; temperature = temperature i; fields = fields i } }
 
--- no line names a player and gives a planet
-pub one_form : (line : List (List ℕ)) (player : Player) (planet : NewPlanet) → line ≡ player_words player → line ≡ planet_words planet → ⊥
-one_form line player planet first second =
-    let both = ap length (sym first ∙ second) in
-    omega (arith, both)
+one_amount : (m n : ℕ) → m ≤ CAP → n ≤ CAP → decimal m ≡ decimal n → m ≡ n
+one_amount m n most_m most_n same =
+    let small_m : m < 2 ^ 64 = omega (arith, most_m) in
+    let small_n : n < 2 ^ 64 = omega (arith, most_n) in
+    decimal_injective m n small_m small_n same
 
-rules_is : (a b : Rules) → a.seed ≡ b.seed → a.speed ≡ b.speed → a ≡ b
+-- the words of a line say one stock
+pub one_stock : (line : List (List ℕ)) (a b : NewStock) → line ≡ stock_words a → line ≡ stock_words b → a ≡ b
+one_stock line a b first second =
+    let same : stock_words a ≡ stock_words b = sym first ∙ second in
+    let place : coord_text a.at ≡ coord_text b.at = cc in
+    let metal : decimal a.amounts.m ≡ decimal b.amounts.m = cc in
+    let crystal : decimal a.amounts.c ≡ decimal b.amounts.c = cc in
+    let deuterium : decimal a.amounts.d ≡ decimal b.amounts.d = cc in
+    let at = coord_once a.at b.at place in
+    let amounts =
+    amounts_is a.amounts b.amounts (one_amount a.amounts.m b.amounts.m a.amounts.metal b.amounts.metal metal) (one_amount a.amounts.c b.amounts.c a.amounts.crystal b.amounts.crystal crystal)
+    (one_amount a.amounts.d b.amounts.d a.amounts.deuterium b.amounts.deuterium deuterium) in
+    λ i. record { at = at i; amounts = amounts i }
+
+cap_small : (kind : Kind) → level_cap_of kind < 2 ^ 64
+cap_small kind = search rules
+
+level_is : (a b : NewLevel) → a.at ≡ b.at → a.building ≡ b.building → a.level ≡ b.level → a ≡ b
+level_is a b at building level =
+    let at_building = λ (k : Building). (to : a.level ≤ level_cap_of k.kind) → a ≡ record a { building = k; level_to = to } in
+    let first = subst at_building building (λ to i. record a { level_to = le_prop a.level_to to i }) in
+    let at_level = λ (n : ℕ). (from : 1 ≤ n) (to : n ≤ level_cap_of b.building.kind) → a ≡ record a { building = b.building; level = n; level_from = from; level_to = to } in
+    let second = subst at_level level (λ from to. first to ∙ (λ i. record a { building = b.building; level_from = le_prop a.level_from from i; level_to = to })) b.level_from b.level_to in
+    second ∙ (λ i. record b { at = at i })
+
+-- the words of a line say one level
+pub one_level : (line : List (List ℕ)) (a b : NewLevel) → line ≡ level_words a → line ≡ level_words b → a ≡ b
+one_level line a b first second =
+    let same : level_words a ≡ level_words b = sym first ∙ second in
+    let place : coord_text a.at ≡ coord_text b.at = cc in
+    let word : kind_word a.building.kind ≡ kind_word b.building.kind = cc in
+    let text : decimal a.level ≡ decimal b.level = cc in
+    let cap_a = cap_small a.building.kind in
+    let cap_b = cap_small b.building.kind in
+    let small_a : a.level < 2 ^ 64 = omega (arith, a.level_to, cap_a) in
+    let small_b : b.level < 2 ^ 64 = omega (arith, b.level_to, cap_b) in
+    level_is a b (coord_once a.at b.at place) (building_is a.building b.building (word_once a.building.kind b.building.kind word)) (decimal_injective a.level b.level small_a small_b text)
+
+-- how long the first word of a line is
+first_length : List (List ℕ) → ℕ
+first_length [] = 0
+first_length (word ∷ later) = length word
+
+-- no line has two forms
+pub no_player_planet : (line : List (List ℕ)) (player : Player) (planet : NewPlanet) → line ≡ player_words player → line ≡ planet_words planet → ⊥
+no_player_planet line player planet first second = let both = ap length (sym first ∙ second) in omega (arith, both)
+
+pub no_player_stock : (line : List (List ℕ)) (player : Player) (stock : NewStock) → line ≡ player_words player → line ≡ stock_words stock → ⊥
+no_player_stock line player stock first second = let both = ap length (sym first ∙ second) in omega (arith, both)
+
+pub no_player_level : (line : List (List ℕ)) (player : Player) (level : NewLevel) → line ≡ player_words player → line ≡ level_words level → ⊥
+no_player_level line player level first second = let both = ap length (sym first ∙ second) in omega (arith, both)
+
+pub no_planet_stock : (line : List (List ℕ)) (planet : NewPlanet) (stock : NewStock) → line ≡ planet_words planet → line ≡ stock_words stock → ⊥
+unfolding first_length
+no_planet_stock line planet stock first second = let both = ap first_length (sym first ∙ second) in omega (arith, both)
+
+pub no_planet_level : (line : List (List ℕ)) (planet : NewPlanet) (level : NewLevel) → line ≡ planet_words planet → line ≡ level_words level → ⊥
+no_planet_level line planet level first second = let both = ap length (sym first ∙ second) in omega (arith, both)
+
+pub no_stock_level : (line : List (List ℕ)) (stock : NewStock) (level : NewLevel) → line ≡ stock_words stock → line ≡ level_words level → ⊥
+no_stock_level line stock level first second = let both = ap length (sym first ∙ second) in omega (arith, both)
+
+pub rules_is : (a b : Rules) → a.seed ≡ b.seed → a.speed ≡ b.speed → a ≡ b
 rules_is a b seed speed =
     let at = λ (s : ℕ). (from : 1 ≤ s) (to : s ≤ 100) → a ≡ record a { speed = s; speed_from = from; speed_to = to } in
     let first = subst at speed (λ from to i. record a { speed_from = le_prop a.speed_from from i; speed_to = le_prop a.speed_to to i }) b.speed_from b.speed_to in

@@ -1,28 +1,38 @@
 -- What the lines of a founding text say one after another, each judged by those before it. Rules: docs/RULES.md,
 -- "The founding", and docs/PROTOCOL.md, "The founding text".
-use Rattle.std.specs.Prelude.{◌≡◌, ◌<◌, ◌*◌, ℕ, List, [], ◌∷◌, ◌++◌, Bool, true, false, if◌then◌else◌, length, map, count_by, Option, None, Some, ◌⊎◌}
+use Rattle.std.specs.Prelude.{◌≡◌, ◌<◌, ◌≤◌, ◌+◌, ◌*◌, ℕ, List, [], ◌∷◌, Bool, true, false, if◌then◌else◌, length, count_by, find, slice_set, Option, None, Some, ◌⊎◌}
 use Rattle.std.specs.List.{list_any}
 use Rattle.base_ids.specs.Cells.{same_coord, same_player}
 use Rattle.base_ids.specs.Order.{coord_before, player_before}
 use Rattle.base_ids.specs.declared.coord.Coord.{Coord}
 use Rattle.base_ids.specs.declared.player.Player.{Player}
-use Rattle.base_ids.specs.declared.cell_id.CellId.TheVariants.{Account, Planet}
-use Rattle.rates.specs.declared.resources.Resources.{Resources}
+use Rattle.catalog.specs.Kinds.{place_in}
+use Rattle.catalog.specs.declared.classes.TheConstants.{BUILDINGS}
 use Rattle.rates.specs.declared.stock.TheConstants.{GRAINS}
-use Rattle.strict_model.specs.Strict.{own_of}
-use Rattle.strict_model.specs.Universe.{PlanetFields, Universe}
-use Rattle.founding.specs.Lines.{heading_words, player_words, planet_words, IsLineOf}
+use Rattle.tick_model.specs.Production.{level_of}
+use Rattle.tick_model.specs.Refusals.{used_fields}
+use Rattle.tick_model.specs.Universe.{PlanetFields}
+use Rattle.founding.specs.Firsts.{first_fields}
+use Rattle.founding.specs.Lines.{heading_words, player_words, planet_words, stock_words, level_words, IsLineOf}
 use Rattle.founding.specs.declared.draft.TheConstants.{MOST_OWNED, MOST_PLANETS, MOST_PLAYERS}
 use Rattle.founding.specs.declared.heading.Heading.{Heading}
-use Rattle.founding.specs.declared.new_planet.TheConstants.{FIRST_UNITS}
-use Rattle.founding.specs.declared.new_planet.NewPlanet.{NewPlanet}
+use Rattle.founding.specs.declared.named.NewLevel.{NewLevel}
+use Rattle.founding.specs.declared.named.NewPlanet.{NewPlanet}
+use Rattle.founding.specs.declared.named.NewStock.{NewStock}
+
+-- A planet as lines have made it so far: where it stands, what it has of its own, and whether a line has said its stock. A
+-- building whose level no line has said has level 0.
+pub record DraftPlanet : Type 0 where
+  pub at : Coord
+  pub own : PlanetFields
+  pub stocked : Bool
 
 -- what lines have said so far: the rules, capacity and moment of the heading, the players in the order of their
 -- numbers, and the planets in the order of their coordinates
 pub record Drafted : Type 0 where
   pub heading : Heading
   pub players : List Player
-  pub planets : List PlanetFields
+  pub planets : List DraftPlanet
 
 -- the heading alone
 abbrev pub begun : Heading → Drafted
@@ -34,29 +44,51 @@ put before new [] = new ∷ []
 put before new (first ∷ later) = if before new first then new ∷ first ∷ later else first ∷ put before new later
 
 -- by coordinates
-abbrev pub planet_before : PlanetFields → PlanetFields → Bool
+abbrev pub planet_before : DraftPlanet → DraftPlanet → Bool
 planet_before a b = coord_before a.at b.at
 
 -- the player is one of these
 abbrev pub is_named : Player → List Player → Bool
 is_named player players = list_any (λ other. same_player other player) players
 
+-- the planet that stands there
+abbrev pub planet_at : Coord → List DraftPlanet → Option DraftPlanet
+planet_at at planets = find (λ planet. same_coord planet.at at) planets
+
 -- one of the planets stands there
-abbrev pub is_taken : Coord → List PlanetFields → Bool
+abbrev pub is_taken : Coord → List DraftPlanet → Bool
 is_taken at planets = list_any (λ planet. same_coord planet.at at) planets
 
 -- how many of the planets the player has
-abbrev pub planets_of : Player → List PlanetFields → ℕ
-planets_of player planets = count_by (λ planet. same_player planet.owner player) planets
+abbrev pub planets_of : Player → List DraftPlanet → ℕ
+planets_of player planets = count_by (λ planet. same_player planet.own.owner player) planets
 
--- what a new planet holds: the first units of metal and of crystal, and no deuterium
-abbrev pub first_stock : Resources
-first_stock = record { metal = FIRST_UNITS * GRAINS; crystal = FIRST_UNITS * GRAINS; deuterium = 0 }
+-- the planet that stands where this one does gives way to it
+abbrev pub replaced : DraftPlanet → List DraftPlanet → List DraftPlanet
+replaced new [] = []
+replaced new (old ∷ later) = if same_coord old.at new.at then new ∷ later else old ∷ replaced new later
 
 -- a planet as it is founded
-abbrev pub first_fields : NewPlanet → PlanetFields
-first_fields planet =
-    record { at = planet.at; owner = planet.owner; temperature = planet.temperature; fields = planet.fields; stock = first_stock }
+abbrev pub first_planet : NewPlanet → DraftPlanet
+first_planet planet = record { at = planet.at; own = first_fields planet; stocked = false }
+
+-- a planet with the stock that a line says
+abbrev pub stocked_with : NewStock → DraftPlanet → DraftPlanet
+stocked_with stock planet =
+    record planet {
+      own =
+          record planet.own {
+            stock = record { metal = stock.amounts.m * GRAINS; crystal = stock.amounts.c * GRAINS; deuterium = stock.amounts.d * GRAINS };
+          };
+      stocked = true;
+    }
+
+-- a planet with the level of a building that a line says
+abbrev pub raised_to : NewLevel → DraftPlanet → DraftPlanet
+raised_to level planet =
+    record planet {
+      own = record planet.own { levels = slice_set planet.own.levels (place_in BUILDINGS level.building.kind) level.level };
+    }
 
 -- A player may be named who isn't named yet, if there is room for one more.
 pub record MayName (draft : Drafted) (player : Player) : Type 0 where
@@ -71,13 +103,34 @@ pub record MayStand (draft : Drafted) (planet : NewPlanet) : Type 0 where
   pub fewer : planets_of planet.owner draft.planets < MOST_OWNED
   pub room : length draft.planets < MOST_PLANETS
 
+-- The stock of a planet may be said once, if the planet is named.
+pub record MayStock (draft : Drafted) (stock : NewStock) (planet : DraftPlanet) : Type 0 where
+  pub stands : planet_at stock.at draft.planets ≡ Some planet
+  pub unsaid : planet.stocked ≡ false
+
+-- The level of a building of a planet may be said once, if the planet is named and has fields for all its levels.
+pub record MayRaise (draft : Drafted) (level : NewLevel) (planet : DraftPlanet) : Type 0 where
+  pub stands : planet_at level.at draft.planets ≡ Some planet
+  pub unsaid : level_of planet.own level.building.kind ≡ 0
+  pub room : used_fields planet.own + level.level ≤ planet.own.fields
+
 -- the player is named
 abbrev pub Names : Drafted → Player → Drafted → Type 0
 Names draft player new = MayName draft player × (new ≡ record draft { players = put player_before player draft.players })
 
 -- the planet is given to its owner
 abbrev pub Gives : Drafted → NewPlanet → Drafted → Type 0
-Gives draft planet new = MayStand draft planet × (new ≡ record draft { planets = put planet_before (first_fields planet) draft.planets })
+Gives draft planet new = MayStand draft planet × (new ≡ record draft { planets = put planet_before (first_planet planet) draft.planets })
+
+-- the planet that stands there has the stock
+abbrev pub Stocks : Drafted → NewStock → Drafted → Type 0
+Stocks draft stock new =
+    (planet : DraftPlanet) × MayStock draft stock planet × (new ≡ record draft { planets = replaced (stocked_with stock planet) draft.planets })
+
+-- the planet that stands there has the level
+abbrev pub Raises : Drafted → NewLevel → Drafted → Type 0
+Raises draft level new =
+    (planet : DraftPlanet) × MayRaise draft level planet × (new ≡ record draft { planets = replaced (raised_to level planet) draft.planets })
 
 -- the universe begins
 abbrev pub Begins : Heading → Drafted → Type 0
@@ -93,7 +146,11 @@ pub record Says {A : Type 0} (words_of : A → List (List ℕ)) (Makes : A → D
 -- the other forms.
 abbrev pub Adds : Option Drafted → List ℕ → Drafted → Type 0
 Adds None line new = Says heading_words Begins line new
-Adds (Some draft) line new = Says player_words (Names draft) line new ⊎ Says planet_words (Gives draft) line new
+Adds (Some draft) line new =
+    Says player_words (Names draft) line new
+    ⊎ Says planet_words (Gives draft) line new
+    ⊎ Says stock_words (Stocks draft) line new
+    ⊎ Says level_words (Raises draft) line new
 
 -- the line adds nothing, whatever would come of it
 abbrev pub AddsNothing : Option Drafted → List ℕ → Type 0
@@ -103,17 +160,3 @@ AddsNothing said line = (new : Drafted) → Adds said line new → ⊥
 abbrev pub Grows : Option Drafted → List (List ℕ) → Option Drafted → Type 0
 Grows said [] new = new ≡ said
 Grows said (line ∷ later) new = (next : Drafted) × Adds said line next × Grows (Some next) later new
-
--- The universe that is founded: it has the accounts of the players and the planets, in their orders, stands at the
--- moment of the heading, and no request has come.
-abbrev pub founded : Drafted → Universe
-founded draft =
-    record {
-      rules = draft.heading.rules;
-      cells = map Account draft.players ++ map (λ planet. Planet planet.at) draft.planets;
-      moment = draft.heading.moment;
-      number = 0;
-      own = own_of draft.players draft.planets;
-      items = [];
-      fleets = [];
-    }

@@ -3,17 +3,19 @@
 use Rattle.std.specs.Prelude.{◌≡◌, ◌+◌, ℕ, List, [], ◌∷◌, ◌++◌, codes, length, Option, None, Some, ⊤}
 use Rattle.std.specs.Str.Lines.{lines as text_lines}
 use Rattle.base_text.specs.Parts.{Lacks}
-use Rattle.strict_model.specs.Universe.{Universe}
-use Rattle.founding.specs.Drafts.{founded, Adds, AddsNothing, Drafted, Grows}
+use Rattle.tick_model.specs.Universe.{Universe}
+use Rattle.founding.specs.Drafts.{Adds, AddsNothing, Drafted, Grows}
+use Rattle.founding.specs.Founded.{founded}
 
--- The lines are a founding text of this universe, and then the lines `script`: a heading and lines that each add
--- something, a line `.`, and the script.
-pub record Founds (lines : List (List ℕ)) (universe : Universe) (script : List (List ℕ)) : Type 0 where
+-- The lines are a founding text of this universe, whose history may keep so many requests, and then the lines `script`: a
+-- heading and lines that each add something, a line `.`, and the script.
+pub record Founds (lines : List (List ℕ)) (universe : Universe) (capacity : ℕ) (script : List (List ℕ)) : Type 0 where
   pub good : List (List ℕ)
   pub draft : Drafted
   pub parts : lines ≡ good ++ (codes "." ∷ script)
   pub grows : Grows None good (Some draft)
   pub founds : universe ≡ founded draft
+  pub keeps : capacity ≡ draft.heading.capacity
 
 -- the line is a `.` that ends a text: a heading stands before it
 abbrev pub IsEnd : Option Drafted → List ℕ → Type 0

@@ -1,6 +1,9 @@
 pub mod Lines
+pub mod Firsts
 pub mod Drafts
+pub mod Founded
 pub mod Founding
 pub mod DraftMaps
+pub mod Filing
 pub mod Steps
 pub mod Reading

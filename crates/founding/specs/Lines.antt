@@ -4,9 +4,12 @@ use Rattle.std.specs.Fmt.{decimal, signed_decimal}
 use Rattle.base_text.specs.Parts.{words}
 use Rattle.base_ids.specs.Text.{coord_text, player_text}
 use Rattle.base_ids.specs.declared.player.Player.{Player}
+use Rattle.catalog.specs.Kinds.{kind_word}
 use Rattle.request_text.specs.declared.line_reader.TheConstants.{LONGEST_LINE}
 use Rattle.founding.specs.declared.heading.Heading.{Heading}
-use Rattle.founding.specs.declared.new_planet.NewPlanet.{NewPlanet}
+use Rattle.founding.specs.declared.named.NewLevel.{NewLevel}
+use Rattle.founding.specs.declared.named.NewPlanet.{NewPlanet}
+use Rattle.founding.specs.declared.named.NewStock.{NewStock}
 
 -- `universe SEED SPEED CAPACITY MOMENT`
 abbrev pub heading_words : Heading → List (List ℕ)
@@ -21,6 +24,15 @@ player_words player = codes "player" ∷ player_text player ∷ []
 abbrev pub planet_words : NewPlanet → List (List ℕ)
 planet_words planet =
     codes "planet" ∷ coord_text planet.at ∷ player_text planet.owner ∷ signed_decimal planet.temperature ∷ decimal planet.fields ∷ []
+
+-- `stock C METAL CRYSTAL DEUTERIUM`
+abbrev pub stock_words : NewStock → List (List ℕ)
+stock_words stock =
+    codes "stock" ∷ coord_text stock.at ∷ decimal stock.amounts.m ∷ decimal stock.amounts.c ∷ decimal stock.amounts.d ∷ []
+
+-- `level C BUILDING L`
+abbrev pub level_words : NewLevel → List (List ℕ)
+level_words level = codes "level" ∷ coord_text level.at ∷ kind_word level.building.kind ∷ decimal level.level ∷ []
 
 -- the line has these words, and is no longer than a line of text may be
 pub record IsLineOf (spelled : List (List ℕ)) (line : List ℕ) : Type 0 where

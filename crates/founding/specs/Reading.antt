@@ -9,8 +9,8 @@ use Rattle.request_text.specs.LineReading.{kept, Follows, Sees}
 use Rattle.request_text.specs.declared.line_reader.LineReader.{LineReader}
 use Rattle.request_text.specs.declared.line_reader.Stop.{Stop}
 use Rattle.request_text.specs.declared.line_reader.Stop.TheVariants.{Fault as AtFault, Spent as AtBound}
-use Rattle.strict_model.specs.Strict.{universe_of}
-use Rattle.strict_model.specs.declared.strict.StrictUniverse.{StrictUniverse}
+use Rattle.base_bytes.specs.Base.{universe_of}
+use Rattle.base_bytes.specs.declared.base.Base.{Base}
 use Rattle.founding.specs.Drafts.{Drafted}
 use Rattle.founding.specs.Founding.{Founds, IsBadAt, IsBadNext, IsUnfinished, TakesMemory, NeedsMemory}
 use Rattle.founding.specs.declared.fault.FoundingFault.{FoundingFault}
@@ -19,8 +19,8 @@ use Rattle.founding.specs.declared.fault.FoundingFault.TheVariants.{Bad, ReadFau
 -- The text founds the universe, and the reader sees what stands behind its `.`. Or this line of it is the first bad
 -- one; or what was taken of it begins a founding text; or memory ran out at a line that adds something, and the reader
 -- sees what stands behind that line.
-abbrev pub Reads : List ℕ → LineReader → List ℕ → Result StrictUniverse FoundingFault → Type 0
-Reads text reader more (Ok universe) = (rest : List ℕ) × Founds (lines text) (universe_of universe) (lines rest) × Sees reader more rest
+abbrev pub Reads : List ℕ → LineReader → List ℕ → Result Base FoundingFault → Type 0
+Reads text reader more (Ok base) = (rest : List ℕ) × Founds (lines text) (universe_of base) base.capacity (lines rest) × Sees reader more rest
 Reads text reader more (Err (Bad n)) = IsBadAt (lines text) n
 Reads text reader more (Err ReadFault) = IsUnfinished text more
 Reads text reader more (Err Spent) = IsUnfinished text more

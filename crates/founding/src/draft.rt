@@ -1,19 +1,24 @@
-ghost use Rattle.std.specs.Prelude.{◌≡◌, ◌≤◌, [], length, vec_capacity, IsTrue, ◌↔◌, MatchOption, unwrap_or};
-ghost use Rattle.std.specs.BTreeMap.{keys, values};
-ghost use Rattle.strict_model.specs.Strict.{universe_of};
-ghost use Rattle.request_text.specs.declared.line_reader.TheConstants.{LONGEST_LINE};
-ghost use Rattle.founding.specs.Drafts.{begun, founded, planets_of, Adds, Gives, MayName, MayStand, Names};
-ghost use Rattle.founding.specs.DraftMaps.{draft_of, IsSound};
+ghost use Rattle.std.specs.Prelude.{◌≡◌, ◌≤◌, length, IsTrue, ◌↔◌, MatchOption, None, Some};
+ghost use Rattle.base_bytes.specs.Base.{universe_of};
+ghost use Rattle.base_bytes.specs.Sound.{IsSound};
+ghost use Rattle.founding.specs.DraftMaps.{draft_of, planet_of, IsKept};
+ghost use Rattle.founding.specs.Drafts.{begun, planet_at, Adds, Gives, MayName, MayStand, Names, Raises, Stocks};
+ghost use Rattle.founding.specs.Founded.{founded};
 ghost use Rattle.founding.specs.Steps.{Steps};
+ghost use Rattle.request_text.specs.declared.line_reader.TheConstants.{LONGEST_LINE};
 
 use crate::fault::LineFault;
+use crate::filing::{add_place, list_accounts, list_planets, put_back};
 use crate::heading::Heading;
-use crate::new_planet::NewPlanet;
-use crate::read_lines::{read_planet, read_player};
+use crate::named::{NewLevel, NewPlanet, NewStock};
+use crate::read_lines::{read_level, read_planet, read_player, read_stock};
+use crate::sketch::Sketch;
+use account_cell::Account;
+use base_bytes::Base;
 use base_ids::{Coord, Player};
+use planet_cell::Planet;
 use std::alloc::Global;
 use std::collections::BTreeMap;
-use strict_model::{Planet, StrictUniverse};
 
 /// The most players of a universe.
 pub const MOST_PLAYERS: usize = 10000;
@@ -22,17 +27,18 @@ pub const MOST_PLAYERS: usize = 10000;
 pub const MOST_PLANETS: usize = 20000;
 
 /// The most planets of one player.
-pub const MOST_OWNED: u8 = 9;
+pub const MOST_OWNED: usize = 9;
 
 /// What the lines of a founding text have said so far. What a rule asks for is looked up in a map, so that no list is
 /// searched. There is room for the lists of the universe, so that founding it takes no memory.
 #[derive(Drop)]
 pub struct Draft {
+    alloc: Global,
     heading: Heading,
-    // How many planets each named player has.
-    players: BTreeMap<Player, u8>,
-    planets: BTreeMap<Coord, Planet>,
-    player_room: Vec<Player>,
+    // The places of the planets of each named player, in their order.
+    players: BTreeMap<Player, Vec<Coord>>,
+    planets: BTreeMap<Coord, Sketch>,
+    account_room: Vec<Account>,
     planet_room: Vec<Planet>,
 }
 
@@ -40,23 +46,24 @@ impl Draft {
     /// A draft that says no more than its heading. It takes no memory.
     pub fn new(alloc: Global, heading: Heading) -> Draft
         ensures begun { draft_of result ≡ begun heading }
-        ensures sound { IsSound result }
+        ensures kept { IsKept result }
     {
         Draft {
+            alloc,
             heading,
             players: BTreeMap::new(alloc),
             planets: BTreeMap::new(alloc),
-            player_room: Vec::new(alloc),
+            account_room: Vec::new(alloc),
             planet_room: Vec::new(alloc),
         }
     }
 
     /// Adds what the line says.
     pub fn add_line(&mut self, line: &[u8]) -> Result<(), LineFault>
-        requires sound { IsSound self.old }
+        requires kept { IsKept self.old }
         requires short { length line.now ≤ LONGEST_LINE }
         ensures steps { Steps (λ old new. Adds (Some old) line.now new) self.old self.new result }
-        ensures sound { IsSound self.new }
+        ensures kept { IsKept self.new }
     {
         if let Some(player) = read_player(line) {
             return self.name_player(player);
@@ -64,100 +71,126 @@ impl Draft {
         if let Some(planet) = read_planet(line) {
             return self.give_planet(planet);
         }
+        if let Some(stock) = read_stock(line) {
+            return self.say_stock(stock);
+        }
+        if let Some(level) = read_level(line) {
+            return self.say_level(level);
+        }
         Err(LineFault::Bad)
     }
 
     /// The universe that the lines found. It takes no memory.
-    pub fn found(self) -> StrictUniverse
-        requires { IsSound self }
-        ensures { universe_of result ≡ founded (draft_of self) }
+    pub fn found(self) -> Base
+        requires { IsKept self }
+        ensures universe { universe_of result ≡ founded (draft_of self) }
+        ensures capacity { result.capacity ≡ (draft_of self).heading.capacity }
+        ensures sound { IsSound result }
     {
         let Draft {
+            alloc,
             heading,
             players,
             planets,
-            player_room,
+            account_room,
             planet_room,
         } = self;
-        StrictUniverse {
-            rules: heading.rules,
-            moment: heading.moment,
-            number: 0,
-            players: list_players(&players, player_room),
-            planets: list_planets(&planets, planet_room),
-        }
+        let accounts = list_accounts(players, account_room);
+        let planets = list_planets(alloc, &planets, planet_room);
+        heading.base(accounts, planets)
     }
 
     // Names the player.
     fn name_player(&mut self, player: Player) -> Result<(), LineFault>
-        requires { IsSound self.old }
+        requires { IsKept self.old }
         ensures steps { Steps (λ old new. Names old player new) self.old self.new result }
-        ensures sound { IsSound self.new }
+        ensures kept { IsKept self.new }
     {
         if !self.may_name(player) {
             return Err(LineFault::Bad);
         }
-        self.player_room.reserve(self.players.len() + 1)?;
-        self.players.insert(player, 0)?;
+        self.account_room.reserve(self.players.len() + 1)?;
+        let places = Vec::with_capacity(self.alloc, MOST_OWNED)?;
+        self.players.insert(player, places)?;
         Ok(())
     }
 
     // Whether the player may be named.
     fn may_name(&self, player: Player) -> bool
-        requires { IsSound self.now }
+        requires { IsKept self.now }
         ensures { IsTrue result ↔ MayName (draft_of self.now) player }
     {
         self.players.len() < MOST_PLAYERS && !self.players.contains_key(&player)
     }
 
-    // Gives the planet to its owner. The count of the owner's planets is changed last, which takes no memory.
+    // Gives the planet to its owner. The owner's places are changed last, which takes no memory.
     fn give_planet(&mut self, planet: NewPlanet) -> Result<(), LineFault>
-        requires { IsSound self.old }
+        requires { IsKept self.old }
         ensures steps { Steps (λ old new. Gives old planet new) self.old self.new result }
-        ensures sound { IsSound self.new }
+        ensures kept { IsKept self.new }
     {
-        let owned = self.owned_before(planet).ok_or(LineFault::Bad)?;
+        if !self.may_stand(planet) {
+            return Err(LineFault::Bad);
+        }
         self.planet_room.reserve(self.planets.len() + 1)?;
-        self.planets.insert(planet.at, planet.planet())?;
-        self.players.insert(planet.owner, owned + 1)?;
+        self.planets.insert(planet.at, Sketch::new(planet))?;
+        add_place(&mut self.players, planet.owner, planet.at);
         Ok(())
     }
 
-    // How many planets the owner of the planet has. `None` exactly if the planet may not stand.
-    fn owned_before(&self, planet: NewPlanet) -> Option<u8>
-        requires { IsSound self.now }
-        ensures { MatchOption result
-            (MayStand (draft_of self.now) planet → ⊥)
-            (λ n. MayStand (draft_of self.now) planet × (n ≡ planets_of planet.owner (draft_of self.now).planets)) }
+    // Whether the planet may stand.
+    fn may_stand(&self, planet: NewPlanet) -> bool
+        requires { IsKept self.now }
+        ensures { IsTrue result ↔ MayStand (draft_of self.now) planet }
     {
         if self.planets.len() >= MOST_PLANETS || self.planets.contains_key(&planet.at) {
-            return None;
+            return false;
         }
-        let owned = self.players.get(&planet.owner)?;
-        (*owned < MOST_OWNED).then_some(*owned)
+        match self.players.get(&planet.owner) {
+            Some(places) => places.len() < MOST_OWNED,
+            None => false,
+        }
     }
-}
 
-// The players in their order, in a list that has room for them.
-fn list_players(players: &BTreeMap<Player, u8>, mut list: Vec<Player>) -> Vec<Player>
-    requires empty { list.items ≡ [] }
-    requires room { length (keys players.now) ≤ vec_capacity list }
-    ensures { result.items ≡ keys players.now }
-{
-    'players: for player in players.keys() {
-        list.push(*player).unwrap();
+    // The planet that stands there, as lines have made it.
+    fn sketch_at(&self, at: Coord) -> Option<Sketch>
+        requires { IsKept self.now }
+        ensures { MatchOption result
+            (planet_at at (draft_of self.now).planets ≡ None)
+            (λ sketch. (planet_at at (draft_of self.now).planets ≡ Some (planet_of sketch)) × (sketch.at ≡ at)) }
+    {
+        self.planets.get(&at).copied()
     }
-    list
-}
 
-// The planets in their order, in a list that has room for them.
-fn list_planets(planets: &BTreeMap<Coord, Planet>, mut list: Vec<Planet>) -> Vec<Planet>
-    requires empty { list.items ≡ [] }
-    requires room { length (values planets.now) ≤ vec_capacity list }
-    ensures { result.items ≡ values planets.now }
-{
-    'planets: for planet in planets.values() {
-        list.push(*planet).unwrap();
+    // Gives a planet the stock that a line says.
+    fn say_stock(&mut self, stock: NewStock) -> Result<(), LineFault>
+        requires { IsKept self.old }
+        ensures steps { Steps (λ old new. Stocks old stock new) self.old self.new result }
+        ensures kept { IsKept self.new }
+    {
+        let Some(sketch) = self.sketch_at(stock.at) else {
+            return Err(LineFault::Bad);
+        };
+        if sketch.stocked {
+            return Err(LineFault::Bad);
+        }
+        put_back(&mut self.planets, sketch.stocked_with(stock));
+        Ok(())
     }
-    list
+
+    // Gives a building of a planet the level that a line says.
+    fn say_level(&mut self, level: NewLevel) -> Result<(), LineFault>
+        requires { IsKept self.old }
+        ensures steps { Steps (λ old new. Raises old level new) self.old self.new result }
+        ensures kept { IsKept self.new }
+    {
+        let Some(sketch) = self.sketch_at(level.at) else {
+            return Err(LineFault::Bad);
+        };
+        if !sketch.may_raise(level) {
+            return Err(LineFault::Bad);
+        }
+        put_back(&mut self.planets, sketch.raised_to(level));
+        Ok(())
+    }
 }

@@ -1,11 +1,11 @@
 ghost use Rattle.std.specs.Prelude.{◌≤◌, ◌<◌, ◌^◌};
+ghost use Rattle.base_bytes.specs.declared.base.TheConstants.{MOST_REQUESTS};
 ghost use Rattle.ports.specs.declared.clock.TheConstants.{LATEST};
-ghost use Rattle.founding.specs.declared.heading.TheConstants.{MOST_REQUESTS};
 
-use strict_model::Rules;
-
-/// The most requests that the history of a universe may keep.
-pub const MOST_REQUESTS: u32 = 262144;
+use account_cell::Account;
+use base_bytes::Base;
+use planet_cell::Planet;
+use tick_model::Rules;
 
 /// What the line `universe SEED SPEED CAPACITY MOMENT` says: the rules of the universe, how many requests its
 /// history may keep, and the second at which it begins.
@@ -18,4 +18,30 @@ pub struct Heading {
     pub ghost capacity_from: { 1 ≤ capacity },
     pub ghost capacity_to: { capacity ≤ MOST_REQUESTS },
     pub ghost in_time: { moment ≤ LATEST },
+}
+
+impl Heading {
+    ghost use Rattle.std.specs.Prelude.{◌≡◌};
+    ghost use Rattle.base_bytes.specs.Base.{setting_of};
+
+    /// The base with these accounts and planets. No request has come.
+    #[tactic(auto, using(crate::proofs::Wording::rules_is))]
+    pub fn base(self, accounts: Vec<Account>, planets: Vec<Planet>) -> Base
+        ensures rules { (setting_of result).rules ≡ self.rules }
+        ensures capacity { result.capacity ≡ self.capacity }
+        ensures moment { result.moment ≡ self.moment }
+        ensures number { result.number ≡ 0 }
+        ensures accounts { result.accounts ≡ accounts }
+        ensures planets { result.planets ≡ planets }
+    {
+        Base {
+            seed: self.rules.seed,
+            speed: self.rules.speed,
+            capacity: self.capacity,
+            moment: self.moment,
+            number: 0,
+            accounts,
+            planets,
+        }
+    }
 }

@@ -3,11 +3,13 @@
 
 mod draft;
 mod fault;
+mod filing;
 mod heading;
 mod laws;
-mod new_planet;
+mod named;
 mod read_lines;
 mod read_text;
+mod sketch;
 
 pub use fault::FoundingFault;
 pub use laws::found_once;

@@ -1,19 +1,22 @@
 ghost use Rattle.std.specs.Prelude.{◌≡◌, List, ℕ, [], ◌∷◌, MatchOption};
 ghost use Rattle.base_text.specs.Parts.{words};
 ghost use Rattle.base_ids.specs.declared.player.Player.{Player};
-ghost use Rattle.founding.specs.Lines.{heading_words, planet_words, player_words};
+ghost use Rattle.founding.specs.Lines.{heading_words, level_words, planet_words, player_words, stock_words};
 ghost use Rattle.founding.specs.declared.heading.Heading.{Heading};
-ghost use Rattle.founding.specs.declared.new_planet.NewPlanet.{NewPlanet};
+ghost use Rattle.founding.specs.declared.named.NewLevel.{NewLevel};
+ghost use Rattle.founding.specs.declared.named.NewPlanet.{NewPlanet};
+ghost use Rattle.founding.specs.declared.named.NewStock.{NewStock};
 
-use crate::heading::{Heading, MOST_REQUESTS};
-use crate::new_planet::{MOST_FIELDS, NewPlanet};
+use crate::heading::Heading;
+use crate::named::{MOST_FIELDS, NewLevel, NewPlanet, NewStock};
+use base_bytes::MOST_REQUESTS;
 use base_ids::Player;
 use base_text::{cut, is_same, number, positive_number, signed_number};
-use catalog::TOP_SPEED;
+use catalog::{Amounts, Building, CAP, Class, TOP_SPEED};
 use ports::LATEST;
 use rates::{COLDEST, HOTTEST};
 use request_text::{coord, player};
-use strict_model::Rules;
+use tick_model::Rules;
 
 // The five words of a line that has five.
 fn five_words(line: &[u8]) -> Option<(&[u8], &[u8], &[u8], &[u8], &[u8])>
@@ -28,6 +31,21 @@ fn five_words(line: &[u8]) -> Option<(&[u8], &[u8], &[u8], &[u8], &[u8])>
     match cut(fifth, b' ') {
         Some(_) => None,
         None => Some((first, second, third, fourth, fifth)),
+    }
+}
+
+// The four words of a line that has four.
+fn four_words(line: &[u8]) -> Option<(&[u8], &[u8], &[u8], &[u8])>
+    ensures { MatchOption result
+        ((a b c d : List ℕ) → words line.now ≡ a ∷ b ∷ c ∷ d ∷ [] → ⊥)
+        (λ w. words line.now ≡ w.0.now ∷ w.1.now ∷ w.2.now ∷ w.3.now ∷ []) }
+{
+    let (first, rest) = cut(line, b' ')?;
+    let (second, rest) = cut(rest, b' ')?;
+    let (third, fourth) = cut(rest, b' ')?;
+    match cut(fourth, b' ') {
+        Some(_) => None,
+        None => Some((first, second, third, fourth)),
     }
 }
 
@@ -87,5 +105,45 @@ pub fn read_planet(line: &[u8]) -> Option<NewPlanet>
         owner,
         temperature,
         fields: fields as u16,
+    })
+}
+
+/// What a line `stock C METAL CRYSTAL DEUTERIUM` says. `None` exactly if the line is no such line.
+pub fn read_stock(line: &[u8]) -> Option<NewStock>
+    ensures { MatchOption result
+        ((s : NewStock) → words line.now ≡ stock_words s → ⊥)
+        (λ s. words line.now ≡ stock_words s) }
+{
+    let (form, place, metal, crystal, deuterium) = five_words(line)?;
+    if !is_same(form, b"stock") {
+        return None;
+    }
+    let at = coord(place)?;
+    let m = number(metal, CAP)?;
+    let c = number(crystal, CAP)?;
+    let d = number(deuterium, CAP)?;
+    Some(NewStock {
+        at,
+        amounts: Amounts { m, c, d },
+    })
+}
+
+/// What a line `level C BUILDING L` says. `None` exactly if the line is no such line.
+pub fn read_level(line: &[u8]) -> Option<NewLevel>
+    ensures { MatchOption result
+        ((l : NewLevel) → words line.now ≡ level_words l → ⊥)
+        (λ l. words line.now ≡ level_words l) }
+{
+    let (form, place, word, level) = four_words(line)?;
+    if !is_same(form, b"level") {
+        return None;
+    }
+    let at = coord(place)?;
+    let building = Building::read(word)?;
+    let level = positive_number(level, u64::from(building.kind.level_cap()))?;
+    Some(NewLevel {
+        at,
+        building,
+        level: level as u8,
     })
 }

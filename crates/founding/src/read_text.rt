@@ -1,4 +1,5 @@
 ghost use Rattle.std.specs.Prelude.{◌≡◌, ◌≢◌, ◌+◌, ◌≤◌, ◌<◌, List, ℕ, length, Err, IfOk, OnOk, MatchResult, Option};
+ghost use Rattle.base_bytes.specs.Sound.{IsSound};
 ghost use Rattle.ports.specs.Causes.{Rose};
 ghost use Rattle.ports.specs.declared.clock.TheConstants.{LATEST};
 ghost use Rattle.request_text.specs.LineReading.{ahead, taken, answered_line, Follows, IsSpent, Known, Sees};
@@ -9,11 +10,11 @@ ghost use Rattle.founding.specs.Reading.{Reads, Stops};
 use crate::draft::Draft;
 use crate::fault::FoundingFault;
 use crate::read_lines::read_heading;
+use base_bytes::Base;
 use base_text::is_same;
 use ports::Source;
 use request_text::{LineReader, Told};
 use std::alloc::Global;
-use strict_model::StrictUniverse;
 
 /// Reads a founding text up to its `.`, and no line after it. The reader then tells the lines of the script.
 ///
@@ -23,10 +24,11 @@ pub fn read<S: Source>(
     alloc: Global,
     lines: &mut LineReader,
     source: &mut S,
-) -> Result<StrictUniverse, FoundingFault>
+) -> Result<Base, FoundingFault>
     ensures reads { Known (S.left source.old) (S.left source.new) (λ left more. (text : List ℕ)
         → Sees lines.old left text → Reads text lines.new more result) }
-    ensures begins { IfOk result (λ universe. (universe.number ≡ 0) × (universe.moment ≤ LATEST)) }
+    ensures begins { IfOk result (λ base. (base.number ≡ 0) × (base.moment ≤ LATEST)) }
+    ensures sound { IfOk result IsSound }
     ensures ahead { ahead lines.new ≤ ahead lines.old }
     ensures counts { Known (S.left source.old) (S.left source.new)
         (λ left more. taken lines.new + length more ≡ taken lines.old + length left) }

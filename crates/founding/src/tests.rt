@@ -1,26 +1,24 @@
 // What no clause says: founding texts that are good, and where others are bad.
 use crate::{FoundingFault, read};
+use base_bytes::Base;
 use base_ids::{Coord, Player};
 use ports::MemorySource;
+use rates::Resources;
 use request_text::{Line, LineReader};
 use std::alloc::{AllocError, Global};
 use std::test::Fail;
-use strict_model::{Rules, StrictUniverse};
 
 // What comes of a text that is read in pieces.
-fn founding_of(
-    alloc: Global,
-    text: &[u8],
-) -> Result<Result<StrictUniverse, FoundingFault>, AllocError> {
+fn founding_of(alloc: Global, text: &[u8]) -> Result<Result<Base, FoundingFault>, AllocError> {
     let mut source = MemorySource::new(text, &[]).in_pieces(100);
     let mut reader = LineReader::new(alloc)?;
     Ok(read(alloc, &mut reader, &mut source))
 }
 
-// The universe that a good text founds.
-fn universe_of(alloc: Global, text: &[u8]) -> Result<StrictUniverse, Fail> {
+// The base that a good text founds.
+fn base_of(alloc: Global, text: &[u8]) -> Result<Base, Fail> {
     match founding_of(alloc, text)? {
-        Ok(universe) => Ok(universe),
+        Ok(base) => Ok(base),
         Err(_) => Err(Fail::from("not founded")),
     }
 }
@@ -28,7 +26,7 @@ fn universe_of(alloc: Global, text: &[u8]) -> Result<StrictUniverse, Fail> {
 // How many players and planets a text founds, or its first bad line.
 fn counts_of(alloc: Global, text: &[u8]) -> Result<Result<(usize, usize), u64>, Fail> {
     match founding_of(alloc, text)? {
-        Ok(universe) => Ok(Ok((universe.players.len(), universe.planets.len()))),
+        Ok(base) => Ok(Ok((base.accounts.len(), base.planets.len()))),
         Err(FoundingFault::Bad { line }) => Ok(Err(line)),
         Err(_) => Err(Fail::from("no answer")),
     }
@@ -168,10 +166,10 @@ fn a_line_of_401_bytes_is_bad(rt: HostRuntime) -> Result<(), Fail> {
 fn the_script_stays(rt: HostRuntime) -> Result<(), Fail> {
     let mut source = MemorySource::new(b"universe 7 1 9 5\n.\n@9 1 account\n", &[]);
     let mut reader = LineReader::new(rt.alloc())?;
-    let Ok(universe) = read(rt.alloc(), &mut reader, &mut source) else {
+    let Ok(base) = read(rt.alloc(), &mut reader, &mut source) else {
         return Err(Fail::from("not founded"));
     };
-    assert_eq!(rt; universe.moment, 5);
+    assert_eq!(rt; base.moment, 5);
     assert_eq!(rt; reader.next(&mut source), Line::Text(12));
     assert_eq!(rt; reader.line(), b"@9 1 account".as_slice());
     Ok(())
@@ -180,18 +178,27 @@ fn the_script_stays(rt: HostRuntime) -> Result<(), Fail> {
 #[test]
 fn a_new_planet_holds_500_units(rt: HostRuntime) -> Result<(), Fail> {
     let text = b"universe 7 3 9 5\nplayer 4\nplanet 2:33:5 4 -12 163\n.\n";
-    let universe = universe_of(rt.alloc(), text)?;
-    assert_eq!(rt; universe.rules, Rules { seed: 7, speed: 3 });
-    assert_eq!(rt; universe.players.as_slice(), [Player { k: 4 }].as_slice());
-    assert_eq!(rt; universe.planets.len(), 1);
-    let planet = universe.planets[0];
+    let base = base_of(rt.alloc(), text)?;
+    assert_eq!(rt; (base.seed, base.speed, base.capacity), (7, 3, 9));
+    assert_eq!(rt; (base.moment, base.number), (5, 0));
+    assert_eq!(rt; base.accounts.len(), 1);
+    let account = &base.accounts[0];
+    assert_eq!(rt; account.player, Player { k: 4 });
+    assert_eq!(rt; account.techs.n, [0; 14]);
+    assert_eq!(rt; account.units, 0);
+    assert_eq!(rt; base.planets.len(), 1);
+    let planet = &base.planets[0];
     assert_eq!(rt; planet.at, Coord { g: 2, s: 33, p: 5 });
     assert_eq!(rt; planet.owner, Player { k: 4 });
     assert_eq!(rt; planet.temperature, -12);
     assert_eq!(rt; planet.fields, 163);
+    assert_eq!(rt; planet.levels, [0; 11]);
+    assert_eq!(rt; planet.tenths, [10; 5]);
     assert_eq!(rt; planet.stock.metal, 1_800_000);
     assert_eq!(rt; planet.stock.crystal, 1_800_000);
     assert_eq!(rt; planet.stock.deuterium, 0);
+    assert_eq!(rt; planet.units, [0; 22]);
+    assert_eq!(rt; planet.buildings.len(), 0);
     Ok(())
 }
 
@@ -210,20 +217,144 @@ planet 1:10:2 2 40 163
 
 #[test]
 fn players_come_by_number_and_planets_by_coordinates(rt: HostRuntime) -> Result<(), Fail> {
-    let universe = universe_of(rt.alloc(), OUT_OF_ORDER)?;
-    let players = [Player { k: 2 }, Player { k: 10 }, Player { k: 30 }];
-    assert_eq!(rt; universe.players.as_slice(), players.as_slice());
-    let places = [
-        Coord { g: 1, s: 9, p: 15 },
-        Coord { g: 1, s: 10, p: 1 },
-        Coord { g: 1, s: 10, p: 2 },
-        Coord { g: 1, s: 10, p: 3 },
-        Coord { g: 2, s: 1, p: 1 },
-    ];
-    assert_eq!(rt; universe.planets.len(), places.len());
-    for (planet, at) in universe.planets.iter().zip(places.iter()) {
+    let base = base_of(rt.alloc(), OUT_OF_ORDER)?;
+    let first = Coord { g: 1, s: 9, p: 15 };
+    let second = Coord { g: 1, s: 10, p: 1 };
+    let third = Coord { g: 1, s: 10, p: 2 };
+    let fourth = Coord { g: 1, s: 10, p: 3 };
+    let fifth = Coord { g: 2, s: 1, p: 1 };
+    let places = [first, second, third, fourth, fifth];
+    assert_eq!(rt; base.planets.len(), places.len());
+    for (planet, at) in base.planets.iter().zip(places.iter()) {
         assert_eq!(rt; planet.at, *at);
     }
+    assert_eq!(rt; base.accounts.len(), 3);
+    assert_eq!(rt; base.accounts[0].player, Player { k: 2 });
+    assert_eq!(rt;
+        base.accounts[0].planets.as_slice(),
+        [second, third].as_slice()
+    );
+    assert_eq!(rt; base.accounts[1].player, Player { k: 10 });
+    assert_eq!(rt; base.accounts[1].planets.as_slice(), [fourth].as_slice());
+    assert_eq!(rt; base.accounts[2].player, Player { k: 30 });
+    assert_eq!(rt;
+        base.accounts[2].planets.as_slice(),
+        [first, fifth].as_slice()
+    );
+    Ok(())
+}
+
+// The base of a heading, player 1, a planet of his with 20 fields at 1:1:1, and these lines.
+fn built_of(alloc: Global, lines: &[u8]) -> Result<Base, Fail> {
+    let mut text = Vec::from_slice(
+        alloc,
+        b"universe 7 1 1000 0\nplayer 1\nplanet 1:1:1 1 40 20\n",
+    )?;
+    text.extend_from_slice(lines)?;
+    base_of(alloc, &text)
+}
+
+// The stocks in grains and the levels of the first planet of such a base.
+fn first_built(alloc: Global, lines: &[u8]) -> Result<(Resources, [u8; 11]), Fail> {
+    let base = built_of(alloc, lines)?;
+    let Some(planet) = base.planets.first() else {
+        return Err(Fail::from("no planet"));
+    };
+    let levels = planet.levels;
+    Ok((planet.stock, levels))
+}
+
+// The first bad line of such a text.
+fn bad_built(alloc: Global, lines: &[u8]) -> Result<Result<(usize, usize), u64>, Fail> {
+    let mut text = Vec::from_slice(alloc, b"planet 1:1:1 1 40 20\n")?;
+    text.extend_from_slice(lines)?;
+    bad_behind(alloc, &text)
+}
+
+#[test]
+fn a_stock_line_says_the_units_of_a_planet(rt: HostRuntime) -> Result<(), Fail> {
+    let cases: [(&[u8], u64, u64, u64); 4] = [
+        (b"stock 1:1:1 0 0 0\n.\n", 0, 0, 0),
+        (b"stock 1:1:1 1 20 300\n.\n", 3600, 72000, 1_080_000),
+        (b"stock 1:1:1 500 500 0\n.", 1_800_000, 1_800_000, 0),
+        (
+            b"planet 1:1:2 1 40 20\nstock 1:1:2 7 7 7\nstock 1:1:1 4000000000000 0 1\n.\n",
+            14_400_000_000_000_000,
+            0,
+            3600,
+        ),
+    ];
+    for (lines, metal, crystal, deuterium) in cases {
+        let (stock, _) = first_built(rt.alloc(), lines)?;
+        assert_eq!(rt;
+            (stock.metal, stock.crystal, stock.deuterium),
+            (metal, crystal, deuterium)
+        );
+    }
+    Ok(())
+}
+
+#[test]
+fn a_level_line_says_the_level_of_a_building(rt: HostRuntime) -> Result<(), Fail> {
+    let cases: [(&[u8], [u8; 11]); 3] = [
+        (
+            b"level 1:1:1 metalmine 1\n.\n",
+            [1, 0, 0, 0, 0, 0, 0, 0, 0, 0, 0],
+        ),
+        (
+            b"level 1:1:1 nanite 8\nlevel 1:1:1 robotics 12\n.\n",
+            [0, 0, 0, 0, 0, 0, 0, 12, 0, 0, 8],
+        ),
+        (
+            b"planet 1:1:2 1 40 9\nlevel 1:1:2 lab 9\nlevel 1:1:1 lab 6\nstock 1:1:1 1 1 1\nlevel 1:1:1 crystalmine 14\n.",
+            [0, 14, 0, 0, 0, 0, 0, 0, 0, 6, 0],
+        ),
+    ];
+    for (lines, levels) in cases {
+        let (_, said) = first_built(rt.alloc(), lines)?;
+        assert_eq!(rt; said, levels);
+    }
+    Ok(())
+}
+
+#[test]
+fn bad_stock_and_level_lines_are_named(rt: HostRuntime) -> Result<(), Fail> {
+    let cases: [(&[u8], u64); 18] = [
+        (b"stock 1:1:1 4000000000001 0 0\n.\n", 4),
+        (b"stock 1:1:1 0 4000000000001 0\n.\n", 4),
+        (b"stock 1:1:1 0 0 4000000000001\n.\n", 4),
+        (b"stock 1:1:1 1 1\n.\n", 4),
+        (b"stock 1:1:1 01 1 1\n.\n", 4),
+        (b"stock 1:1:2 1 1 1\n.\n", 4),
+        (b"stock 1:1:2 1 1 1\nplanet 1:1:2 1 40 20\n.\n", 4),
+        (b"stock 1:1:1 500 500 0\nstock 1:1:1 500 500 0\n.\n", 5),
+        (b"level 1:1:2 metalmine 1\n.\n", 4),
+        (b"level 1:1:1 metalmine 0\n.\n", 4),
+        (b"level 1:1:1 metalmine\n.\n", 4),
+        (b"level 1:1:1 energy 1\n.\n", 4),
+        (b"level 1:1:1 smallcargo 1\n.\n", 4),
+        (b"level 1:1:1 nanite 9\n.\n", 4),
+        (b"level 1:1:1 metalmine 1\nlevel 1:1:1 metalmine 1\n.\n", 5),
+        (b"level 1:1:1 metalmine 1\nlevel 1:1:1 metalmine 2\n.\n", 5),
+        (b"level 1:1:1 metalmine 21\n.\n", 4),
+        (
+            b"level 1:1:1 metalmine 20\nstock 1:1:1 1 1 1\nlevel 1:1:1 lab 1\n.\n",
+            6,
+        ),
+    ];
+    for (lines, number) in cases {
+        assert_eq!(rt; bad_built(rt.alloc(), lines)?, Err(number));
+    }
+    Ok(())
+}
+
+#[test]
+fn lines_of_each_form_found_one_universe(rt: HostRuntime) -> Result<(), Fail> {
+    let base = built_of(
+        rt.alloc(),
+        b"stock 1:1:1 1 1 1\nlevel 1:1:1 lab 1\nplayer 2\nplanet 1:1:2 2 40 20\n.\n",
+    )?;
+    assert_eq!(rt; (base.accounts.len(), base.planets.len()), (2, 2));
     Ok(())
 }
 

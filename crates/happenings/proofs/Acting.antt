@@ -1,30 +1,29 @@
 -- An event that happens to cells that are held, and the universe that they show.
-use Rattle.std.proofs.Common.{◌≡◌, ℕ, ◌+◌, ◌-◌, Bool, true, false, cond, ◌&&◌, List, [], ◌∷◌, map, refl, ap, ◌∙◌, sym, subst, inl, inr, Option, Some, None}
+use Rattle.std.proofs.Common.{◌≡◌, ◌-◌, Bool, true, false, cond, ◌&&◌, List, ◌∷◌, refl, ap, ◌∙◌, sym, subst, inr, Option, Some, None}
 use Rattle.std.specs.Prelude.{IfSome, option_map, if◌then◌else◌}
 use Rattle.std.specs.BTreeMap.{get}
 use Rattle.base_ids.specs.Cells.{same_cell}
 use Rattle.base_ids.specs.declared.cell_id.CellId.{CellId}
-use Rattle.base_ids.specs.declared.cell_id.CellId.TheVariants.{Account, Planet}
+use Rattle.base_ids.specs.declared.cell_id.CellId.TheVariants.{Planet}
 use Rattle.base_ids.specs.declared.coord.Coord.{Coord}
-use Rattle.laziness.proofs.Bringing.{test}
 use Rattle.laziness.specs.Stamps.{Stamps, bring_to, event_acts}
-use Rattle.planet_cell.specs.Planet.{fields_of, item_of, items_of}
+use Rattle.planet_cell.specs.Planet.{fields_of, items_of}
 use Rattle.planet_cell.specs.Queue.{finished}
 use Rattle.rates.specs.Times.{times}
-use Rattle.tick_model.specs.Buildings.{Built, done}
-use Rattle.tick_model.specs.Events.{Event, built, Owes, effect, footprint}
+use Rattle.tick_model.specs.Buildings.{done}
+use Rattle.tick_model.specs.Events.{built, Owes, effect, footprint}
 use Rattle.tick_model.specs.Game.{game}
 use Rattle.tick_model.specs.Production.{gains, planet_second}
 use Rattle.tick_model.specs.Rules.{IsIn}
-use Rattle.tick_model.specs.Universe.{Buildings, Item, Own, of_planet, PlanetFields, Setting, State, same_class}
+use Rattle.tick_model.specs.Universe.{Buildings, Item, of_planet, PlanetFields, Setting, State, same_class}
 use Rattle.tick_model.specs.Views.{View, queue, view}
 use Rattle.tick_model.proofs.Effects.{effect-is, event-outside}
 use Rattle.tick_model.proofs.Follows.{Follows, builds, follows-in}
-use Rattle.tick_model.proofs.Gains.{gains-owe, none-gained, view-advanced}
+use Rattle.tick_model.proofs.Gains.{none-gained, view-advanced}
 use Rattle.tick_model.proofs.Lists.{cell-is, cell-itself}
 use Rattle.tick_model.proofs.Writes.{is_building_at, with_buildings}
 use Rattle.happenings.specs.Applying.{Happens, done_at}
-use Rattle.happenings.specs.Held.{IsNamed, Puts, Shows, ShowsCell, Stand, held_at, holds, planet_stand}
+use Rattle.happenings.specs.Held.{IsNamed, Shows, ShowsCell, Stand, held_at, planet_stand}
 use Rattle.happenings.specs.Orders.{place_order}
 use Rattle.happenings.specs.declared.due.Due.{Due}
 use Rattle.happenings.specs.declared.held.Held.{Held}

@@ -58,25 +58,29 @@ two : (held : Held) (moment : ℕ) (passed : List (Coord × PlanetCell)) (at : C
     → owed_by moment at cell ≡ Some event → key_before (key_at event) (key_at due) ≡ b → IsFirstOf held moment passed (Some due)
     → IsFirstOf held moment (passed ++ (at, cell) ∷ []) (cond b (Some event) (Some due))
 two held moment passed at cell due event true found owes sooner (there, first) =
-    let here : event.at ≡ at = owed_at moment at cell.planet.buildings.items event owes in
-    ((cell, ap (get place_order held.planets) here ∙ found, ap (λ (place : Coord). owed_by moment place cell) here ∙ owes),
-    all_push (NotSooner moment event) passed (at, cell) (all_map (NotSooner moment due) (NotSooner moment event) passed (λ e. still_first moment due event e sooner) first)
-    (never_itself moment event (at, cell) owes))
-two held moment passed at cell due event false found owes sooner (there, first) =
-    (there, all_push (NotSooner moment due) passed (at, cell) first (λ other is.
-    let same : event ≡ other = one_event event other (sym owes ∙ is) in
-    subst (λ (d : Due). key_before (key_at d) (key_at due) ≡ false) same sooner))
+    let here : event.at ≡ at = owed_at moment at cell.planet.buildings.items event owes in (
+      (cell, ap (get place_order held.planets) here ∙ found, ap (λ (place : Coord). owed_by moment place cell) here ∙ owes),
+      all_push (NotSooner moment event) passed (at, cell) (all_map (NotSooner moment due) (NotSooner moment event) passed (λ e. still_first moment due event e sooner) first)
+          (never_itself moment event (at, cell) owes),
+    )
+two held moment passed at cell due event false found owes sooner (there, first) = (
+  there,
+  all_push (NotSooner moment due) passed (at, cell) first (λ other is.
+      let same : event ≡ other = one_event event other (sym owes ∙ is) in
+      subst (λ (d : Due). key_before (key_at d) (key_at due) ≡ false) same sooner),
+)
 
 -- one planet more
 pub first_more : (held : Held) (moment : ℕ) (passed : List (Coord × PlanetCell)) (at : Coord) (cell : PlanetCell) (first owes : Option Due) → get place_order held.planets at ≡ Some cell
     → owed_by moment at cell ≡ owes → IsFirstOf held moment passed first → IsFirstOf held moment (passed ++ (at, cell) ∷ []) (sooner_of first owes)
 first_more held moment passed at cell None None found is none = all_push (λ e. owed_by moment e.0 e.1 ≡ None) passed (at, cell) none is
 first_more held moment passed at cell None (Some event) found is none =
-    let here : event.at ≡ at = owed_at moment at cell.planet.buildings.items event is in
-    ((cell, ap (get place_order held.planets) here ∙ found, ap (λ (place : Coord). owed_by moment place cell) here ∙ is),
-    all_push (NotSooner moment event) passed (at, cell)
-    (all_map (λ e. owed_by moment e.0 e.1 ≡ None) (NotSooner moment event) passed (λ e nothing other owes. no_event other (sym nothing ∙ owes)) none)
-    (never_itself moment event (at, cell) is))
+    let here : event.at ≡ at = owed_at moment at cell.planet.buildings.items event is in (
+      (cell, ap (get place_order held.planets) here ∙ found, ap (λ (place : Coord). owed_by moment place cell) here ∙ is),
+      all_push (NotSooner moment event) passed (at, cell)
+          (all_map (λ e. owed_by moment e.0 e.1 ≡ None) (NotSooner moment event) passed (λ e nothing other owes. no_event other (sym nothing ∙ owes)) none)
+          (never_itself moment event (at, cell) is),
+    )
 first_more held moment passed at cell (Some due) None found is (there, first) =
     (there, all_push (NotSooner moment due) passed (at, cell) first (λ other owes. no_event other (sym is ∙ owes)))
 first_more held moment passed at cell (Some due) (Some event) found is before =

@@ -1,5 +1,5 @@
 -- What the orders of players and places say of equality, and what a map finds.
-use Rattle.std.proofs.Common.{◌≡◌, ℕ, Bool, true, false, cond, eqb, List, [], ◌∷◌, ◌&&◌, ap, ◌∙◌, sym, refl, subst, arith, Option, Some, None}
+use Rattle.std.proofs.Common.{◌≡◌, ℕ, Bool, true, false, cond, eqb, List, [], ◌∷◌, ◌&&◌, ap, ◌∙◌, sym, refl, subst, arith, Option, Some}
 use Rattle.std.proofs.Common.{◌+◌, ◌<◌, ◌++◌, length, get_or}
 use Rattle.std.proofs.Math.Seq.{get_or-append_seam}
 use Rattle.std.proofs.lemmas.List.{length-append}
@@ -14,7 +14,6 @@ use Rattle.base_ids.specs.Cells.{same_coord, same_player}
 use Rattle.base_ids.specs.declared.cell_id.CellId.TheVariants.{Account, Planet}
 use Rattle.base_ids.specs.declared.coord.Coord.{Coord}
 use Rattle.base_ids.specs.declared.player.Player.{Player}
-use Rattle.base_ids.proofs.Names.{coord_is, player_is}
 use Rattle.tick_model.proofs.Lists.{cell-is}
 use Rattle.happenings.specs.Orders.{place_order, player_order}
 

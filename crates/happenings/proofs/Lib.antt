@@ -1,6 +1,10 @@
 pub mod Keys
 pub mod Firsts
 pub mod Putting
+pub mod Together
 pub mod Copying
 pub mod Standing
 pub mod Acting
+pub mod Owing
+pub mod Gains
+pub mod Numbered

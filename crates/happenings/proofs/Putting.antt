@@ -1,13 +1,8 @@
 -- What is held after a cell is held anew.
-use Rattle.std.proofs.Common.{◌≡◌, Bool, true, false, cond, ap, ◌∙◌, sym, refl, subst, Option, Some, None}
+use Rattle.std.proofs.Common.{◌≡◌, Bool, true, false, cond, ap, ◌∙◌, sym, refl, subst, Option, Some}
 use Rattle.std.specs.Prelude.{IfSome, option_map}
-use Rattle.std.specs.BTreeMap.{Updates, get, is_at, BTreeMap}
-use Rattle.base_ids.specs.Cells.{same_cell, same_coord, same_player}
-use Rattle.base_ids.specs.declared.cell_id.CellId.{CellId}
+use Rattle.std.specs.BTreeMap.{Updates, get, is_at}
 use Rattle.base_ids.specs.declared.cell_id.CellId.TheVariants.{Account, Planet}
-use Rattle.base_ids.specs.declared.coord.Coord.{Coord}
-use Rattle.base_ids.specs.declared.player.Player.{Player}
-use Rattle.laziness.proofs.Bringing.{test}
 use Rattle.happenings.specs.Held.{IsNamed, Puts, account_stand, held_at, planet_stand}
 use Rattle.happenings.specs.Orders.{place_order, player_order}
 use Rattle.happenings.specs.declared.held.AccountCell.{AccountCell}
@@ -15,7 +10,7 @@ use Rattle.happenings.specs.declared.held.Held.{Held}
 use Rattle.happenings.specs.declared.held.PlanetCell.{PlanetCell}
 use Rattle.happenings.proofs.Keys.{at_place, at_player, place_is, player_at_is}
 
-mapped : {A B : Type 0} (f : A → B) (b : Bool) (x : A) (rest : Option A) → option_map f (cond b (Some x) rest) ≡ cond b (Some (f x)) (option_map f rest)
+pub mapped : {A B : Type 0} (f : A → B) (b : Bool) (x : A) (rest : Option A) → option_map f (cond b (Some x) rest) ≡ cond b (Some (f x)) (option_map f rest)
 mapped f true x rest = refl
 mapped f false x rest = refl
 
@@ -33,7 +28,7 @@ planet_puts old new cell updates same (Planet at) =
     ap (option_map planet_stand) (updates.0 at) ∙ mapped planet_stand (is_at (place_order cell.planet.at) at) cell (get place_order old.planets at)
     ∙ ap (λ b. cond b (Some (planet_stand cell)) (held_at old (Planet at))) (at_place cell.planet.at at)
 
-named_at : {A : Type 0} (P : A → Type 0) (b : Bool) (x : A) (rest : Option A) → (b ≡ true → P x) → IfSome rest P → IfSome (cond b (Some x) rest) P
+pub named_at : {A : Type 0} (P : A → Type 0) (b : Bool) (x : A) (rest : Option A) → (b ≡ true → P x) → IfSome rest P → IfSome (cond b (Some x) rest) P
 named_at P true x rest here later = here refl
 named_at P false x rest here later = later
 

@@ -1,9 +1,9 @@
 -- Planets that are held, as their universe sees them.
-use Rattle.std.proofs.Common.{◌≡◌, ℕ, ◌+◌, zero, suc, Bool, true, false, not, cond, ◌&&◌, List, [], ◌∷◌, ◌++◌, map, filter, refl, ap, ◌∙◌, sym, subst, inl, inr, Option, Some, None}
+use Rattle.std.proofs.Common.{◌≡◌, ℕ, zero, suc, Bool, true, false, not, cond, ◌&&◌, List, [], ◌∷◌, ◌++◌, map, filter, refl, ap, ◌∙◌, sym, subst, inl, inr}
 use Rattle.std.proofs.lemmas.List.Elements.{filter-append}
 use Rattle.base_ids.specs.Cells.{same_cell}
 use Rattle.base_ids.specs.declared.cell_id.CellId.{CellId}
-use Rattle.base_ids.specs.declared.cell_id.CellId.TheVariants.{Account, Planet}
+use Rattle.base_ids.specs.declared.cell_id.CellId.TheVariants.{Planet}
 use Rattle.base_ids.specs.declared.coord.Coord.{Coord}
 use Rattle.planet_cell.specs.Planet.{item_of}
 use Rattle.planet_cell.specs.declared.building_item.BuildingItem.{BuildingItem}
@@ -13,7 +13,7 @@ use Rattle.tick_model.specs.Rules.{IsIn}
 use Rattle.tick_model.specs.Universe.{Buildings, Item, Own, of_planet, PlanetFields, State, same_class}
 use Rattle.tick_model.specs.Views.{View, queue, stands_in, view}
 use Rattle.tick_model.specs.declared.rules.Rules.{Rules}
-use Rattle.tick_model.proofs.Lists.{cell-is, cell-itself, cell-turned, filter-all, filter-none, filter-turned, fails}
+use Rattle.tick_model.proofs.Lists.{cell-itself, cell-turned, filter-all, filter-none, filter-turned}
 use Rattle.tick_model.proofs.Writes.{is_building_at, with_buildings, with_own}
 
 -- what is seen of a planet without fleets

@@ -1,19 +1,13 @@
 -- What an event makes of the cells that are held. Rule: docs/RULES.md, "The building queue".
-use Rattle.std.specs.Prelude.{◌≡◌, ◌-◌, ◌≤◌, ℕ, List, [], ◌∷◌, Some}
+use Rattle.std.specs.Prelude.{◌≡◌, ◌-◌, ◌≤◌, ℕ, [], Some}
 use Rattle.std.specs.BTreeMap.{get}
 use Rattle.base_ids.specs.declared.cell_id.CellId.TheVariants.{Planet as PlanetId}
-use Rattle.laziness.specs.Laws.{IsNext}
-use Rattle.laziness.specs.Stamps.{Stamps, event_acts}
 use Rattle.planet_cell.specs.Planet.{fields_of, items_of}
 use Rattle.planet_cell.specs.Queue.{finished, Runs}
 use Rattle.rates.specs.Times.{times}
-use Rattle.tick_model.specs.Buildings.{Built}
-use Rattle.tick_model.specs.Events.{Event, home}
-use Rattle.tick_model.specs.Game.{game}
 use Rattle.tick_model.specs.Production.{planet_second}
-use Rattle.tick_model.specs.Universe.{Setting}
 use Rattle.happenings.specs.Due.{owed_by}
-use Rattle.happenings.specs.Held.{Puts, Shows, Stand, holds}
+use Rattle.happenings.specs.Held.{Puts, Stand}
 use Rattle.happenings.specs.Orders.{place_order}
 use Rattle.happenings.specs.declared.due.Due.{Due}
 use Rattle.happenings.specs.declared.held.Held.{Held}

@@ -66,14 +66,22 @@ pub record IsNamed (held : Held) : Type 0 where
 abbrev pub Puts : Held → Held → CellId → Stand → Type 0
 Puts old new name stand = (cell : CellId) → held_at new cell ≡ (if same_cell name cell then Some stand else held_at old cell)
 
+-- of just these cells something is held: what is told of them here
+abbrev pub PicksFrom : (CellId → Option Stand) → List CellId → Held → Type 0
+PicksFrom there names new = (cell : CellId) → held_at new cell ≡ (if list_any (same_cell cell) names then there cell else None)
+
 -- just these cells are held, each as it was held before
 abbrev pub Picks : Held → List CellId → Held → Type 0
-Picks old names new = (cell : CellId) → held_at new cell ≡ (if list_any (same_cell cell) names then held_at old cell else None)
+Picks old names new = PicksFrom (held_at old) names new
 
 -- the same cells are held, each as it was held before
 abbrev pub IsEqual : Held → Held → Type 0
 IsEqual old new = (cell : CellId) → held_at new cell ≡ held_at old cell
 
+-- of a cell what is told of it here is held, if anything is, and all others as before
+abbrev pub CopiesFrom : (CellId → Option Stand) → CellId → Held → Held → Type 0
+CopiesFrom there name old new = (cell : CellId) → held_at new cell ≡ (if same_cell name cell && is_some (there cell) then there cell else held_at old cell)
+
 -- a cell that is held there is held here too, and all others as before
 abbrev pub Copies : Held → CellId → Held → Held → Type 0
-Copies there name old new = (cell : CellId) → held_at new cell ≡ (if same_cell name cell && holds there cell then held_at there cell else held_at old cell)
+Copies there name old new = CopiesFrom (held_at there) name old new

@@ -2,3 +2,9 @@ pub mod Orders
 pub mod Held
 pub mod Due
 pub mod Applying
+pub mod Merging
+pub mod Sights
+pub mod Naming
+pub mod Coming
+pub mod Gaining
+pub mod Numbering

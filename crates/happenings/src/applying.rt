@@ -1,6 +1,7 @@
 ghost use Rattle.std.specs.Prelude.{◌≡◌, ◌≤◌, OnErr, OnOk};
 ghost use Rattle.ports.specs.declared.clock.TheConstants.{LATEST};
 ghost use Rattle.happenings.specs.Applying.{CanHappen, Happens};
+ghost use Rattle.happenings.specs.Coming.{ActsIn};
 ghost use Rattle.happenings.specs.Held.{IsEqual, IsNamed};
 
 use crate::due::Due;
@@ -15,6 +16,7 @@ pub fn apply(cells: &mut Held, rules: &Rules, due: Due) -> Result<(), AllocError
     requires due { CanHappen cells.old due }
     requires named { IsNamed cells.old }
     ensures happens { OnOk result (Happens rules.now.speed due cells.old cells.new) }
+    ensures acts { OnOk result (ActsIn rules.now due cells.old cells.new) }
     ensures named { OnOk result (IsNamed cells.new) }
     ensures err { OnErr result (IsEqual cells.old cells.new) }
 {

@@ -58,11 +58,13 @@ impl PlanetCell {
 
 impl Held {
     ghost use Rattle.std.specs.Prelude.{MatchOption};
+    ghost use Rattle.happenings.specs.Coming.{FindsFirst};
     ghost use Rattle.happenings.specs.Due.{IsFirstDue, IsNothingDue};
 
     /// The first event that a planet of these owes by a moment.
     pub fn first_due(&self, moment: u64) -> Option<Due>
-        ensures { MatchOption result (IsNothingDue self.now moment) (IsFirstDue self.now moment) }
+        ensures due { MatchOption result (IsNothingDue self.now moment) (IsFirstDue self.now moment) }
+        ensures shown { FindsFirst self.now moment result }
     {
         let mut first = None;
         'planets: for (at, cell) in self.planets.iter() {

@@ -60,7 +60,7 @@ impl Held {
     ghost use Rattle.std.specs.Prelude.{◌≡◌, [], Some, IfOk, IfSome, OnOk, OnErr, MatchOption, None};
     ghost use Rattle.std.specs.BTreeMap.{Updates, get};
     ghost use Rattle.base_ids.specs.declared.cell_id.CellId.TheVariants.{Account as AccountId, Planet as PlanetId};
-    ghost use Rattle.happenings.specs.Held.{Copies, IsNamed, Picks, Puts, account_stand, planet_stand};
+    ghost use Rattle.happenings.specs.Held.{Copies, IsEqual, IsNamed, Picks, Puts, account_stand, planet_stand};
     ghost use Rattle.happenings.specs.Orders.{player_order, place_order};
 
     /// No cells. It takes no memory.
@@ -116,6 +116,16 @@ impl Held {
             self.copy_cell(*name, &mut picked)?;
         }
         Ok(picked)
+    }
+
+    /// Holds copies of all these cells.
+    pub fn copy(&self, alloc: Global) -> Result<Held, AllocError>
+        requires { IsNamed self.now }
+        ensures equal { IfOk result (IsEqual self.now) }
+        ensures named { IfOk result IsNamed }
+    {
+        let names = self.names(alloc)?;
+        self.pick(alloc, &names)
     }
 
     // Holds a copy of the cell there too, if it is held here.

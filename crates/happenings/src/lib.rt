@@ -3,7 +3,11 @@
 
 mod applying;
 mod due;
+mod gaining;
 mod held;
+mod looking;
+mod merging;
+mod numbering;
 
 pub use applying::apply;
 pub use due::Due;

@@ -1,5 +1,5 @@
 -- The levels of a planet are within the caps of their kinds.
-use Rattle.std.proofs.Common.{ℕ, ◌≤◌, List, refl, arith, slice_index}
+use Rattle.std.proofs.Common.{ℕ, zero, suc, ◌≤◌, List, [], refl, replicate, arith, slice_index}
 use Rattle.std.specs.Prelude.{IsTrue}
 use Rattle.catalog.specs.Classes.{is_building}
 use Rattle.catalog.specs.Kinds.{place_in}
@@ -42,3 +42,13 @@ pub nanite_within : (levels : List ℕ) (items : List BuildingItem) → AreWithi
 nanite_within levels items capped = kind_within levels items Nanite capped refl
 
 pub ruleset caps = (metal_mine_within, crystal_mine_within, synthesizer_within, solar_plant_within, metal_store_within, crystal_store_within, tank_within, robotics_within, nanite_within)
+
+-- a list of one number over and over holds no greater one
+pub same_within : (most value count place : ℕ) → value ≤ most → slice_index (replicate count value) place ≤ most
+same_within most value zero place small = omega arith
+same_within most value (suc count) zero small = small
+same_within most value (suc count) (suc place) small = same_within most value count place small
+
+-- without buildings and items no building is above its cap
+pub caps_fresh : AreWithinCaps (replicate 11 0) []
+caps_fresh = record { each = λ kind class. omega (arith, same_within 0 0 11 (place_in BUILDINGS kind) (omega arith)) }

@@ -1,12 +1,13 @@
 -- How the first of the items that wait is found.
-use Rattle.std.proofs.Common.{◌≡◌, ℕ, zero, suc, get_or, true, false, List, [], ◌∷◌, map, drop, refl, ap, subst, ◌∙◌, ◌+◌, ◌<◌, length, arith, slice_index}
+use Rattle.std.proofs.Common.{◌≤◌, ◌≡◌, ℕ, zero, suc, get_or, true, false, List, [], ◌∷◌, map, drop, refl, ap, subst, ◌∙◌, ◌+◌, ◌<◌, length, arith, slice_index}
 use Rattle.std.specs.Prelude.{None, Some, slice_get, slice_index_or, slice_set}
 use Rattle.base_ids.specs.declared.coord.Coord.{Coord}
 use Rattle.catalog.specs.Costs.{Cost}
 use Rattle.catalog.specs.Kinds.{place_in}
 use Rattle.catalog.specs.declared.classes.TheConstants.{BUILDINGS}
 use Rattle.planet_cell.specs.Planet.{item_of}
-use Rattle.planet_cell.specs.Queue.{finished, numbered}
+use Rattle.planet_cell.specs.Queue.{Runs, finished, numbered}
+use Rattle.ports.specs.declared.clock.TheConstants.{LATEST}
 use Rattle.planet_cell.specs.declared.building_item.BuildingItem.{BuildingItem}
 use Rattle.rates.specs.declared.resources.Resources.{Resources}
 use Rattle.tick_model.specs.Buildings.{Works, can_pay, next_price, paid, raised, started, starts_first}
@@ -73,3 +74,10 @@ numbers number at (item ∷ second ∷ later) zero last next here is same = absu
 numbers number at (item ∷ second ∷ later) (suc place) last next here is same =
     let rest = numbers number at (second ∷ later) place last next (omega arith) is same in
     ap (λ (x : List Item). item_of at item ∷ x) rest
+
+-- if the first item is done at a second that a clock can tell, a building runs
+pub runs : (items : List BuildingItem) (first : BuildingItem) → Some first ≡ slice_get items 0 → first.second ≤ LATEST → Runs items
+runs [] first here in_time = cc here
+runs (head ∷ later) first here in_time =
+    let equal : first ≡ head = cc here in
+    subst (λ (x : BuildingItem). x.second ≤ LATEST) equal in_time

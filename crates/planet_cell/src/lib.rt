@@ -13,4 +13,8 @@ mod refusing;
 
 pub use building_item::{BuildingItem, Placed};
 pub use growing::seconds_add_up;
+pub use places::place_of;
 pub use planet::Planet;
+
+#[cfg(test)]
+mod tests;

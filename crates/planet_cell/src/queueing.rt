@@ -48,8 +48,8 @@ impl Planet {
         }
     }
 
-    /// The first item of the queue.
-    fn first_building(&self) -> Option<BuildingItem>
+    /// The first item of the queue, which is the building that runs.
+    pub fn first_building(&self) -> Option<BuildingItem>
         ensures { result ≡ slice_get self.now.buildings.items 0 }
     {
         self.buildings.first().copied()

@@ -2,7 +2,7 @@
 use Rattle.laziness.specs.Laws.{ModelLaws}
 use Rattle.tick_model.specs.Game.{game}
 use Rattle.tick_model.specs.Universe.{Setting}
-use Rattle.tick_model.proofs.Laws1 as Events
+use Rattle.tick_model.proofs.EventLaws as Events
 use Rattle.tick_model.proofs.Requesting as Requests
 
 pub game_laws : (setting : Setting) → ModelLaws (game setting)

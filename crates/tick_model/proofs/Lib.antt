@@ -8,7 +8,7 @@ pub mod Queues
 pub mod Nexts
 pub mod Follows
 pub mod Effects
-pub mod Laws1
+pub mod EventLaws
 pub mod Outcomes
 pub mod Requeued
 pub mod Written

@@ -1,4 +1,4 @@
-use Rattle.std.proofs.Common.{[], subst, sym}
+use Rattle.std.proofs.Common.{[], subst}
 use Rattle.ports.proofs.Tellings.{tells-none}
 use Rattle.command.specs.Answers.{IsTold, too_long}
 use Rattle.command.proofs.answering.answer_told.Goals as goal

@@ -51,7 +51,7 @@ lines-init g c =
     let short : length line ≤ LONGEST_LINE = subst (λ (l : List ℕ). length l ≤ LONGEST_LINE) (sym c.line.ensures) step.short in
     let says : Adds None line (draft_of c.new-draft.result) = record { value = c.in_ok-heading.heading; spelled = record { short = short; spells = spells }; makes = c.new-draft.ensures.begun } in
     record {
-      sound = c.new-draft.ensures.sound;
+      kept = c.new-draft.ensures.kept;
       drawn =
           known-map (left c.args.source.now) (left c.next_text.new.source) _ (λ x y. (text : List ℕ) → Sees old x text → Drawn (Some (draft_of c.new-draft.result)) 2 new y text)
           (λ x y follows text seen.
@@ -84,7 +84,7 @@ returns-then-is_same-clause-reads g c =
     let draft = draft_of c.lines.draft in
     let dot = sym c.line-in-lines.ensures ∙ c.if-is_same.ensures.0 refl in
     known-then (left c.args.source.now) (left c.lines.source) (left c.next_text-in-lines.new.source) _ _ (λ x z. (text : List ℕ) → Sees start x text → Reads text new z (Ok c.found.result))
-    (λ x y z drawn follows text seen. let d = drawn text seen in drawn-ended draft c.found.result c.lines.number old new y z text d c.found.ensures (subst (Follows new z d.rest) dot (follows d.rest d.sees)))
+    (λ x y z drawn follows text seen. let d = drawn text seen in drawn-ended draft c.found.result c.lines.number old new y z text d c.found.ensures.universe c.found.ensures.capacity (subst (Follows new z d.rest) dot (follows d.rest d.sees)))
     c.lines.invariant.drawn c.in_ok-next_text-2.ensures.tells
 
 pub returns-in-Err-clause-reads : goal.returns-in-Err-clause-reads
@@ -117,7 +117,7 @@ lines-preserved g c =
     let line = c.line-in-lines-2.result.now in
     let adds : Adds (Some (draft_of c.lines.draft)) line (draft_of c.add_line.new.self) = c.in_default.ensures.steps in
     record {
-      sound = c.add_line.ensures.sound;
+      kept = c.add_line.ensures.kept;
       drawn =
           known-then (left c.args.source.now) (left c.lines.source) (left c.next_text-in-lines.new.source) _ _ (λ x z. (text : List ℕ) → Sees start x text → Drawn (Some (draft_of c.add_line.new.self)) (c.lines.number + 1) new z text)
           (λ x y z drawn follows text seen. let d = drawn text seen in drawn-line (Some (draft_of c.lines.draft)) (draft_of c.add_line.new.self) c.lines.number old new y z text line d adds (subst (Follows new z d.rest) (sym c.line-in-lines-2.ensures) (follows d.rest d.sees)))

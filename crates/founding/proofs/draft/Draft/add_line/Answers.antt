@@ -1,7 +1,7 @@
 use Rattle.std.proofs.Common.{Some}
-use Rattle.founding.specs.Drafts.{Adds, Gives, Names}
+use Rattle.founding.specs.Drafts.{Adds, Gives, Names, Raises, Stocks}
 use Rattle.founding.specs.DraftMaps.{draft_of}
-use Rattle.founding.proofs.Forms.{planet_adds, planet_alone, player_adds, player_alone}
+use Rattle.founding.proofs.Forms.{level_adds, level_alone, planet_adds, planet_alone, player_adds, player_alone, stock_adds, stock_alone}
 use Rattle.founding.proofs.Stepping.{steps-same}
 use Rattle.founding.proofs.draft.Draft.add_line.Goals as goal
 
@@ -20,3 +20,19 @@ returns-in-Some-read_planet-clause-steps c =
     let planet = c.in-Some-read_planet.planet in
     steps-same (λ before after. Gives before planet after) (λ before after. Adds (Some before) line after) c.args.self.now c.give_planet.new.self c.give_planet.result
     (planet_adds old line planet c.requires.short c.in-Some-read_planet.ensures) (planet_alone old line planet c.in-Some-read_planet.ensures) c.give_planet.ensures.steps
+
+pub returns-in-Some-read_stock-clause-steps : goal.returns-in-Some-read_stock-clause-steps
+returns-in-Some-read_stock-clause-steps c =
+    let old = draft_of c.args.self.now in
+    let line = c.args.line.now in
+    let stock = c.in-Some-read_stock.stock in
+    steps-same (λ before after. Stocks before stock after) (λ before after. Adds (Some before) line after) c.args.self.now c.say_stock.new.self c.say_stock.result
+    (stock_adds old line stock c.requires.short c.in-Some-read_stock.ensures) (stock_alone old line stock c.in-Some-read_stock.ensures) c.say_stock.ensures.steps
+
+pub returns-in-Some-read_level-clause-steps : goal.returns-in-Some-read_level-clause-steps
+returns-in-Some-read_level-clause-steps c =
+    let old = draft_of c.args.self.now in
+    let line = c.args.line.now in
+    let level = c.in-Some-read_level.level in
+    steps-same (λ before after. Raises before level after) (λ before after. Adds (Some before) line after) c.args.self.now c.say_level.new.self c.say_level.result
+    (level_adds old line level c.requires.short c.in-Some-read_level.ensures) (level_alone old line level c.in-Some-read_level.ensures) c.say_level.ensures.steps

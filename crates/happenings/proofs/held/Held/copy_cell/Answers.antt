@@ -1,9 +1,9 @@
-use Rattle.std.proofs.Common.{◌≡◌, [], map, ap, ◌∙◌, sym, subst, Option, Some}
+use Rattle.std.proofs.Common.{◌≡◌, [], map, ap, ◌∙◌, sym, subst, Option}
 use Rattle.std.specs.Prelude.{IfSome, option_map}
 use Rattle.base_ids.specs.declared.cell_id.CellId.TheVariants.{Account, Planet}
 use Rattle.planet_cell.specs.Planet.{item_of}
 use Rattle.tick_model.specs.Universe.{of_planet}
-use Rattle.happenings.specs.Held.{Copies, Puts, Stand, account_stand, held_at, planet_stand}
+use Rattle.happenings.specs.Held.{Copies, Puts, account_stand, held_at, planet_stand}
 use Rattle.happenings.specs.declared.held.AccountCell.{AccountCell}
 use Rattle.happenings.specs.declared.held.PlanetCell.{PlanetCell}
 use Rattle.happenings.proofs.Copying.{copies_none, copies_one, on_ok}
@@ -19,13 +19,13 @@ returns-in_ok-copy-in-Some-clause-copies c =
     let name = c.in-Account.is in
     on_ok c.put_account.result (Puts c.args.other.now c.put_account.new.self (Account copy.account.player) (account_stand copy)) (Copies held c.args.name c.args.other.now c.put_account.new.self)
     (λ puts. subst (λ n. Copies held n c.args.other.now c.put_account.new.self) (sym name)
-    (copies_one held c.args.other.now c.put_account.new.self (Account player) (Account copy.account.player) (account_stand c.in-Some.cell.now) (account_stand copy)
+    (copies_one (held_at held) c.args.other.now c.put_account.new.self (Account player) (Account copy.account.player) (account_stand c.in-Some.cell.now) (account_stand copy)
     (ap (option_map account_stand) found) (ap Account (c.in_ok-copy-in-Some.ensures.1 ∙ own)) c.in_ok-copy-in-Some.ensures.0 puts)) c.put_account.ensures.puts
 
 pub returns-in-None-clause-copies : goal.returns-in-None-clause-copies
 returns-in-None-clause-copies c =
     subst (λ n. Copies c.args.self.now n c.args.other.now c.args.other.now) (sym c.in-Account.is)
-    (copies_none c.args.self.now c.args.other.now (Account c.in-Account.player) (ap (option_map account_stand) c.in-None.ensures))
+    (copies_none (held_at c.args.self.now) c.args.other.now (Account c.in-Account.player) (ap (option_map account_stand) c.in-None.ensures))
 
 pub returns-in_ok-copy-in-Some-planet-clause-copies : goal.returns-in_ok-copy-in-Some-planet-clause-copies
 returns-in_ok-copy-in-Some-planet-clause-copies c =
@@ -49,10 +49,10 @@ returns-in_ok-copy-in-Some-planet-clause-copies c =
     }) in
     on_ok c.put_planet.result (Puts c.args.other.now c.put_planet.new.self (Planet copy.planet.at) (planet_stand copy)) (Copies held c.args.name c.args.other.now c.put_planet.new.self)
     (λ puts. subst (λ n. Copies held n c.args.other.now c.put_planet.new.self) (sym name)
-    (copies_one held c.args.other.now c.put_planet.new.self (Planet at) (Planet copy.planet.at) (planet_stand old) (planet_stand copy)
+    (copies_one (held_at held) c.args.other.now c.put_planet.new.self (Planet at) (Planet copy.planet.at) (planet_stand old) (planet_stand copy)
     (ap (option_map planet_stand) found) (ap Planet (sym same.1.at ∙ own)) stand puts)) c.put_planet.ensures.puts
 
 pub returns-in-None-planet-clause-copies : goal.returns-in-None-planet-clause-copies
 returns-in-None-planet-clause-copies c =
     subst (λ n. Copies c.args.self.now n c.args.other.now c.args.other.now) (sym c.in-Planet.is)
-    (copies_none c.args.self.now c.args.other.now (Planet c.in-Planet.at) (ap (option_map planet_stand) c.in-None-planet.ensures))
+    (copies_none (held_at c.args.self.now) c.args.other.now (Planet c.in-Planet.at) (ap (option_map planet_stand) c.in-None-planet.ensures))

@@ -1,4 +1,4 @@
-use Rattle.std.proofs.Common.{◌≡◌, ◌∷◌, ◌++◌, [], List, ap, ◌∙◌, sym, refl, subst, append_assoc, Some}
+use Rattle.std.proofs.Common.{◌≡◌, ◌∷◌, ◌++◌, [], ap, ◌∙◌, sym, refl, subst, append_assoc, Some}
 use Rattle.std.proofs.lemmas.List.{append-nil}
 use Rattle.std.proofs.lemmas.Map.Iter.{rest_all, rest_more}
 use Rattle.std.specs.BTreeMap.{get}
@@ -9,6 +9,7 @@ use Rattle.happenings.specs.Orders.{place_order}
 use Rattle.happenings.specs.declared.held.PlanetCell.{PlanetCell}
 use Rattle.happenings.proofs.Firsts.{first_all, first_more}
 use Rattle.happenings.proofs.Keys.{holds_within}
+use Rattle.happenings.proofs.Owing.{finds_first}
 use Rattle.happenings.proofs.held.Held.first_due.Goals as goal
 
 pub planets-preserved : goal.planets-preserved
@@ -26,10 +27,13 @@ planets-preserved c =
           (first_more held c.args.moment before.0 entry.0 entry.1 c.planets.first _ found refl before.2),
     )
 
-pub returns : goal.returns
-returns c =
+pub returns-clause-due : goal.returns-clause-due
+returns-clause-due c =
     let held = c.args.self.now in
     let before = c.planets.invariant in
     let none = rest_all deref_pair c.planets.at-iterator c.next.new.self c.next.result c.in-None.is c.next.ensures.steps in
     let all : before.0 ≡ held.planets.entries = sym (append-nil before.0) ∙ ap (λ rest. before.0 ++ rest) (sym none) ∙ before.1 in
     first_all held c.args.moment c.planets.first (subst (λ entries. IsFirstOf held c.args.moment entries c.planets.first) all before.2)
+
+pub returns-clause-shown : goal.returns-clause-shown
+returns-clause-shown c = finds_first c.args.self.now c.args.moment c.planets.first (returns-clause-due c)

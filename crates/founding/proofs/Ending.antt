@@ -1,0 +1,60 @@
+-- What the lists have that come of the maps of a draft.
+use Rattle.std.proofs.Common.{◌≡◌, Bool, true, List, [], ◌∷◌, ap, ◌∙◌, sym, subst}
+use Rattle.std.specs.Prelude.{map, AllPairs, Vec}
+use Rattle.std.specs.declared.alloc.Global.{Global}
+use Rattle.std.specs.List.{AllByRecursion}
+use Rattle.std.specs.List.Sorted.{IsStrictlySortedBy}
+use Rattle.std.specs.Map.{keys_of, values_of}
+use Rattle.std.specs.Ordering.{is_lt}
+use Rattle.std.specs.declared.cmp.Ordering.TheVariants.{Less}
+use Rattle.account_cell.specs.declared.account.Account.{Account}
+use Rattle.base_ids.specs.Order.{coord_before, player_before}
+use Rattle.base_ids.specs.declared.coord.Coord.{Coord}
+use Rattle.base_ids.specs.declared.player.Player.{Player}
+use Rattle.planet_cell.specs.declared.planet.Planet.{Planet}
+use Rattle.founding.specs.DraftMaps.{place_order, planet_of, player_order}
+use Rattle.founding.specs.Drafts.{planet_before}
+use Rattle.founding.specs.Filing.{account_of, facts_of, facts_sketched, Facts}
+use Rattle.founding.specs.declared.sketch.Sketch.{Sketch}
+use Rattle.founding.proofs.Keeping.{planets-rise}
+use Rattle.founding.proofs.Orders.{lower_number}
+use Rattle.founding.proofs.Rising.{all-map, rises-pairs, Rises}
+
+all-unmap : {A B : Type 0} (P : B → Type 0) (f : A → B) (xs : List A) → AllByRecursion P (map f xs) → AllByRecursion (λ x. P (f x)) xs
+all-unmap P f [] all = tt
+all-unmap P f (x ∷ xs) (first, later) = (first, all-unmap P f xs later)
+
+-- values rise, if they rise by what they come from
+pub rises-map : {A B : Type 0} (before : B → B → Bool) (f : A → B) (xs : List A) → Rises (λ x y. before (f x) (f y)) xs → Rises before (map f xs)
+rises-map before f [] rises = tt
+rises-map before f (x ∷ xs) (above, rises) = (all-map (λ y. before (f x) y ≡ true) f xs above, rises-map before f xs rises)
+
+pub rises-unmap : {A B : Type 0} (before : B → B → Bool) (f : A → B) (xs : List A) → Rises before (map f xs) → Rises (λ x y. before (f x) (f y)) xs
+rises-unmap before f [] rises = tt
+rises-unmap before f (x ∷ xs) (above, rises) = (all-unmap (λ y. before (f x) y ≡ true) f xs above, rises-unmap before f xs rises)
+
+facts_before : Facts → Facts → Bool
+facts_before a b = coord_before a.at b.at
+
+-- the planets of a list that comes of a map rise
+pub listed-planets-rise : (list : List Planet) (entries : List (Coord × Sketch)) → AllByRecursion (λ e. e.1.at ≡ e.0) entries → IsStrictlySortedBy place_order (keys_of entries) → map facts_of list ≡ map facts_sketched (values_of entries)
+    → AllPairs (λ (a b : Planet). coord_before a.at b.at ≡ true) list
+unfolding facts_before
+listed-planets-rise list entries placed sorted same =
+    let sketches = rises-unmap planet_before planet_of (values_of entries) (planets-rise entries placed sorted) in
+    let facts = subst (Rises facts_before) (sym same) (rises-map facts_before facts_sketched (values_of entries) sketches) in
+    rises-pairs (λ (a b : Planet). coord_before a.at b.at) list (rises-unmap facts_before facts_of list facts)
+
+above-all : (player : Player) (entries : List (Player × Vec Coord Global)) → AllByRecursion (λ y. player_order player y ≡ Less) (keys_of entries) → AllByRecursion (λ (a : Account). player_before player a.player ≡ true) (map account_of entries)
+above-all player [] above = tt
+above-all player (e ∷ es) (lower, others) = (sym (lower_number player.k e.0.k) ∙ ap is_lt lower, above-all player es others)
+
+accounts-rise : (entries : List (Player × Vec Coord Global)) → IsStrictlySortedBy player_order (keys_of entries) → Rises (λ (a b : Account). player_before a.player b.player) (map account_of entries)
+unfolding IsStrictlySortedBy
+accounts-rise [] sorted = tt
+accounts-rise (e ∷ es) (above, sorted) = (above-all e.0 es above, accounts-rise es sorted)
+
+-- so do the accounts
+pub listed-accounts-rise : (list : List Account) (entries : List (Player × Vec Coord Global)) → IsStrictlySortedBy player_order (keys_of entries) → list ≡ map account_of entries → AllPairs (λ (a b : Account). player_before a.player b.player ≡ true) list
+listed-accounts-rise list entries sorted same =
+    subst (AllPairs (λ (a b : Account). player_before a.player b.player ≡ true)) (sym same) (rises-pairs (λ (a b : Account). player_before a.player b.player) (map account_of entries) (accounts-rise entries sorted))

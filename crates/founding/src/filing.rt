@@ -1,0 +1,97 @@
+ghost use Rattle.std.specs.Prelude.{◌≡◌, ◌≤◌, ◌<◌, [], length, map, true, vec_capacity, AllPairs, IfSome, IsSome};
+ghost use Rattle.std.specs.BTreeMap.{get, is_at, values};
+ghost use Rattle.std.specs.List.{AllByRecursion, position};
+ghost use Rattle.std.specs.Map.{set_value};
+ghost use Rattle.base_ids.specs.Order.{coord_before, player_before};
+ghost use Rattle.founding.specs.DraftMaps.{place_order, player_order};
+ghost use Rattle.founding.specs.Drafts.{put};
+ghost use Rattle.founding.specs.Filing.{account_of, facts_of, facts_sketched, AddsPlace, HasRoom};
+
+use crate::sketch::Sketch;
+use account_cell::Account;
+use base_ids::{Coord, Player};
+use catalog::Techs;
+use planet_cell::Planet;
+use std::alloc::Global;
+use std::collections::BTreeMap;
+
+/// Adds a place to those of a player, where it belongs in their order.
+pub fn add_place(players: &mut BTreeMap<Player, Vec<Coord>>, owner: Player, at: Coord)
+    requires { HasRoom (get player_order players.old owner) }
+    ensures { AddsPlace owner at players.old players.new }
+{
+    if let Some(places) = players.get_mut(&owner) {
+        insert_place(places, at);
+    }
+}
+
+// Adds a place to a list that has room for it, where it belongs in the order of places.
+fn insert_place(places: &mut Vec<Coord>, at: Coord)
+    requires { length places.old.items < vec_capacity places.old }
+    ensures items { places.new.items ≡ put coord_before at places.old.items }
+    ensures capacity { vec_capacity places.old ≤ vec_capacity places.new }
+{
+    let index = first_behind(places, at).unwrap_or(places.len());
+    places.insert(index, at).unwrap();
+}
+
+// The index of the first of the places that comes behind a place.
+fn first_behind(places: &[Coord], at: Coord) -> Option<usize>
+    ensures { result ≡ position (coord_before at) places.now }
+{
+    places.iter().position(|place| is_before(at, *place))
+}
+
+// Whether a place comes before another one.
+fn is_before(at: Coord, other: Coord) -> bool
+    ensures { result ≡ coord_before at other }
+{
+    at < other
+}
+
+/// Puts a planet in place of the one that stands where it does.
+pub fn put_back(planets: &mut BTreeMap<Coord, Sketch>, sketch: Sketch)
+    requires { IsSome (get place_order planets.old sketch.at) }
+    ensures { planets.new.entries ≡ set_value (is_at (place_order sketch.at)) planets.old.entries sketch }
+{
+    if let Some(old) = planets.get_mut(&sketch.at) {
+        *old = sketch;
+    }
+}
+
+/// The accounts of the players in their order, in a list that has room for them.
+pub fn list_accounts(players: BTreeMap<Player, Vec<Coord>>, mut list: Vec<Account>) -> Vec<Account>
+    requires empty { list.items ≡ [] }
+    requires room { length players.entries ≤ vec_capacity list }
+    ensures items { result.items ≡ map account_of players.entries }
+    ensures rise { AllPairs (λ first second. player_before first.player second.player ≡ true) result.items }
+{
+    'players: for (player, planets) in players {
+        let account = Account {
+            player,
+            techs: Techs { n: [0; 14] },
+            planets,
+            units: 0,
+        };
+        list.push(account).unwrap();
+    }
+    list
+}
+
+/// The planets in their order, in a list that has room for them.
+pub fn list_planets(
+    alloc: Global,
+    planets: &BTreeMap<Coord, Sketch>,
+    mut list: Vec<Planet>,
+) -> Vec<Planet>
+    requires empty { list.items ≡ [] }
+    requires room { length planets.now.entries ≤ vec_capacity list }
+    requires placed { AllByRecursion (λ entry. entry.1.at ≡ entry.0) planets.now.entries }
+    ensures items { map facts_of result.items ≡ map facts_sketched (values planets.now) }
+    ensures rise { AllPairs (λ first second. coord_before first.at second.at ≡ true) result.items }
+{
+    'planets: for sketch in planets.values() {
+        list.push(sketch.planet(alloc)).unwrap();
+    }
+    list
+}

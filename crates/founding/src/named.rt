@@ -1,0 +1,43 @@
+ghost use Rattle.std.specs.Prelude.{◌≤◌, ◌≤ℤ◌};
+ghost use Rattle.catalog.specs.Levels.{level_cap_of};
+ghost use Rattle.founding.specs.declared.named.TheConstants.{MOST_FIELDS};
+ghost use Rattle.rates.specs.declared.works.TheConstants.{COLDEST, HOTTEST};
+
+use base_ids::{Coord, Player};
+use catalog::{Amounts, Building};
+
+/// The most fields of a planet.
+pub const MOST_FIELDS: u16 = 400;
+
+/// The units of metal and of crystal that a new planet holds.
+pub const FIRST_UNITS: u64 = 500;
+
+/// What the line `planet C K TEMPERATURE FIELDS` says: a place, its owner, its maximum temperature in degrees, and its fields.
+#[derive(Clone, Copy, Debug)]
+pub struct NewPlanet {
+    pub at: Coord,
+    pub owner: Player,
+    pub temperature: i16,
+    pub fields: u16,
+    pub ghost coldest: { COLDEST ≤ℤ temperature },
+    pub ghost hottest: { temperature ≤ℤ HOTTEST },
+    pub ghost fields_from: { 1 ≤ fields },
+    pub ghost fields_to: { fields ≤ MOST_FIELDS },
+}
+
+/// What the line `stock C METAL CRYSTAL DEUTERIUM` says: a place, and the units that the planet there holds.
+#[derive(Clone, Copy, Debug)]
+pub struct NewStock {
+    pub at: Coord,
+    pub amounts: Amounts,
+}
+
+/// What the line `level C BUILDING L` says: a place, a building, and its level on the planet there.
+#[derive(Clone, Copy, Debug)]
+pub struct NewLevel {
+    pub at: Coord,
+    pub building: Building,
+    pub level: u8,
+    pub ghost level_from: { 1 ≤ level },
+    pub ghost level_to: { level ≤ level_cap_of building.kind },
+}

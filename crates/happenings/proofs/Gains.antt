@@ -1,0 +1,79 @@
+-- Cells that gain until a moment, and the universe that they show.
+use Rattle.std.proofs.Common.{◌≡◌, ℕ, ◌-◌, ◌≤◌, zero, suc, cond, true, refl, ap, ◌∙◌, sym, subst, Option, Some, None}
+use Rattle.std.specs.Prelude.{IfSome, IsSome, is_some, option_map}
+use Rattle.std.specs.BTreeMap.{get}
+use Rattle.base_ids.specs.declared.cell_id.CellId.{CellId}
+use Rattle.base_ids.specs.declared.cell_id.CellId.TheVariants.{Planet as PlanetId}
+use Rattle.base_ids.specs.declared.coord.Coord.{Coord}
+use Rattle.laziness.specs.Stamps.{Stamps, bring_to}
+use Rattle.planet_cell.specs.Planet.{AreSame, fields_of, item_of, items_of}
+use Rattle.planet_cell.specs.declared.planet.Planet.{Planet}
+use Rattle.rates.specs.Times.{times}
+use Rattle.std.proofs.Common.{map}
+use Rattle.tick_model.specs.Game.{game}
+use Rattle.tick_model.specs.Production.{cell_second, gains, planet_second}
+use Rattle.tick_model.specs.Universe.{of_planet, Setting}
+use Rattle.tick_model.specs.declared.rules.Rules.{Rules}
+use Rattle.tick_model.proofs.Gains.{view-advanced}
+use Rattle.happenings.specs.Gaining.{AreBehind, Gains, GainsIn, gained, gained_at}
+use Rattle.happenings.specs.Held.{PicksFrom, ShowsCell, Stand, account_stand, held_at, holds, planet_stand}
+use Rattle.happenings.specs.Orders.{place_order}
+use Rattle.happenings.specs.Sights.{names_held}
+use Rattle.happenings.specs.declared.held.AccountCell.{AccountCell}
+use Rattle.happenings.specs.declared.held.Held.{Held}
+use Rattle.happenings.specs.declared.held.PlanetCell.{PlanetCell}
+use Rattle.happenings.proofs.Copying.{picks_all}
+use Rattle.happenings.proofs.Standing.{planet_seen, seen-gains}
+
+-- accounts gain nothing
+account-gains : (rules : Rules) (n : ℕ) (cell : AccountCell) → gains rules n (account_stand cell).seen ≡ (account_stand cell).seen
+unfolding times
+account-gains rules zero cell = refl
+account-gains rules (suc n) cell = ap (cell_second rules) (account-gains rules n cell)
+
+pub account_gained : (rules : Rules) (moment : ℕ) (cell copy : AccountCell) → account_stand copy ≡ record (account_stand cell) { second = moment }
+    → account_stand copy ≡ gained rules moment (account_stand cell)
+account_gained rules moment cell copy is = is ∙ (λ i. record { second = moment; seen = sym (account-gains rules (moment - cell.second) cell) i })
+
+-- a planet that was copied and then gained
+pub planet_gained : (rules : Rules) (moment seconds : ℕ) (cell new : PlanetCell) (copy : Planet) → new.second ≡ moment → seconds ≡ moment - cell.second → AreSame cell.planet copy
+    → fields_of new.planet ≡ times seconds (planet_second rules.speed) (fields_of copy) → items_of new.planet ≡ items_of copy
+    → planet_stand new ≡ gained rules moment (planet_stand cell)
+planet_gained rules moment seconds cell new copy stamp span same fields items =
+    let all : items_of copy ≡ items_of cell.planet = (λ i. map (item_of (sym same.at i)) (sym same.items i)) in
+    let seen : planet_seen (of_planet (fields_of new.planet)) (items_of new.planet) ≡ gains rules (moment - cell.second) (planet_stand cell).seen =
+    (λ i. planet_seen (of_planet (fields i)) ((items ∙ all) i))
+    ∙ (λ i. planet_seen (of_planet (times (span i) (planet_second rules.speed) (sym same.fields i))) (items_of cell.planet))
+    ∙ sym (seen-gains rules (moment - cell.second) (fields_of cell.planet) (items_of cell.planet)) in
+    (λ i. record { second = stamp i; seen = seen i })
+
+-- none of the planets that are held stands later than the moment
+pub planet_behind : (moment : ℕ) (held : Held) (at : Coord) (cell : PlanetCell) → AreBehind moment held → get place_order held.planets at ≡ Some cell → cell.second ≤ moment
+planet_behind moment held at cell behind found =
+    subst (λ (o : Option Stand). IfSome o (λ stand. stand.second ≤ moment)) (ap (option_map planet_stand) found) (behind (PlanetId at))
+
+seen-held : (rules : Rules) (moment : ℕ) (o : Option Stand) → IsSome (option_map (gained rules moment) o) → IsSome o
+seen-held rules moment None some = some
+seen-held rules moment (Some stand) some = refl
+
+pub gains_all : (rules : Rules) (moment : ℕ) (old new : Held) → PicksFrom (gained_at rules moment old) (names_held old) new → Gains rules moment old new
+gains_all rules moment old new picks = picks_all old (gained_at rules moment old) new (λ cell. seen-held rules moment (held_at old cell)) picks
+
+shows-gained : (setting : Setting) (f : Stamps (game setting)) (old : Held) (moment : ℕ) (cell : CellId) (o : Option Stand) → held_at old cell ≡ o → IfSome o (ShowsCell setting f cell)
+    → IfSome (option_map (gained setting.rules moment) o) (ShowsCell setting (bring_to (game setting) (holds old) moment f) cell)
+shows-gained setting f old moment cell None is shown = tt
+shows-gained setting f old moment cell (Some stand) is shown =
+    let here : holds old cell ≡ true = ap is_some is in
+    let seconds : moment - stand.second ≡ cond (holds old cell) (moment - f.at cell) 0 =
+    ap (λ s. moment - s) shown.second ∙ sym (ap (λ b. cond b (moment - f.at cell) 0) here) in
+    record {
+      second = sym (ap (λ b. cond b moment (f.at cell)) here);
+      seen = (λ i. gains setting.rules (seconds i) (shown.seen i)) ∙ sym (view-advanced setting (λ x. cond (holds old x) (moment - f.at x) 0) f.universe cell);
+    }
+
+-- the cells show the universe in which they gained
+pub gains_in : (rules : Rules) (moment : ℕ) (old new : Held) → Gains rules moment old new → GainsIn rules moment old new
+gains_in rules moment old new gains setting f same shows cell =
+    let now : held_at new cell ≡ option_map (gained setting.rules moment) (held_at old cell) = gains cell ∙ ap (λ r. option_map (gained r moment) (held_at old cell)) (sym same) in
+    subst (λ (o : Option Stand). IfSome o (ShowsCell setting (bring_to (game setting) (holds old) moment f) cell)) (sym now)
+    (shows-gained setting f old moment cell (held_at old cell) refl (shows cell))

@@ -1,0 +1,13 @@
+pub mod Stepping
+pub mod Continuing
+pub mod Least
+pub mod Preparing
+pub mod Filling
+pub mod Texts
+pub mod Coursing
+pub mod Waiting
+pub mod Outcoming
+pub mod Showing
+pub mod Answering
+pub mod Ending
+pub mod Samples

@@ -1,0 +1,14 @@
+use Rattle.std.proofs.Common.{[], ◌∷◌, ◌∙◌, sym}
+use Rattle.base_ids.proofs.Names.{player_is}
+use Rattle.lazy.proofs.Samples.{sound_two}
+use Rattle.lazy.proofs.tests.base.Goals as goal
+
+pub returns : goal.returns
+returns c =
+    let account = c.in_ok-account.field-0 in
+    let one = c.planet.result in
+    let two = c.planet-2.result in
+    sound_two _ account one two c.in_ok-vec.ensures.items c.in_ok-vec-2.ensures.items (c.in_ok-account.ensures.planets ∙ (λ i. sym c.planet.ensures.at i ∷ sym c.planet-2.ensures.at i ∷ [])) c.in_ok-account.ensures.units
+    (player_is one.owner account.player (c.planet.ensures.owner ∙ sym c.in_ok-account.ensures.player)) (player_is two.owner account.player (c.planet-2.ensures.owner ∙ sym c.in_ok-account.ensures.player))
+    c.planet.ensures.units c.planet-2.ensures.units
+    (rw (c.planet.ensures.at, c.planet-2.ensures.at) c.requires) c.planet.ensures.queue c.planet-2.ensures.queue

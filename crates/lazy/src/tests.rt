@@ -1,0 +1,166 @@
+// What no clause says: that a request finds memory, and that a planet is the same however often it was asked for.
+ghost use Rattle.std.specs.Prelude.{◌≡◌, ◌≤◌, [], ◌∷◌, true, IfOk, sum};
+ghost use Rattle.base_bytes.specs.Sound.{IsSound};
+ghost use Rattle.base_ids.specs.Order.{coord_before};
+ghost use Rattle.ports.specs.declared.clock.TheConstants.{LATEST};
+ghost use Rattle.lazy.specs.Keeping.{KeepsSome};
+
+use crate::LazyUniverse;
+use account_cell::Account;
+use base_bytes::Base;
+use base_ids::{Coord, LAST_NUMBER, Player};
+use catalog::{Building, Kind, Techs};
+use planet_cell::Planet;
+use rates::{GRAINS, Resources};
+use reply_text::Reply;
+use request_text::Request;
+use std::alloc::{AllocError, Global};
+use std::process::Abort;
+use std::test::Fail;
+use tick_model::Debris;
+
+const FIRST: Coord = Coord { g: 1, s: 1, p: 1 };
+
+const SECOND: Coord = Coord { g: 1, s: 1, p: 2 };
+
+const MINE: Building = Building {
+    kind: Kind::MetalMine,
+};
+
+/// A planet of player 1 without buildings, with 500 metal and 500 crystal.
+fn planet(alloc: Global, at: Coord) -> Planet
+    ensures at { result.at ≡ at }
+    ensures owner { result.owner.k ≡ 1 }
+    ensures units { sum result.units ≡ 0 }
+    ensures queue { result.buildings.items ≡ [] }
+{
+    Planet {
+        at,
+        owner: Player { k: 1 },
+        temperature: 40,
+        fields: 163,
+        levels: [0; 11],
+        tenths: [10; 5],
+        stock: Resources {
+            metal: GRAINS * 500,
+            crystal: GRAINS * 500,
+            deuterium: 0,
+        },
+        debris: Debris {
+            metal: 0,
+            crystal: 0,
+        },
+        units: [0; 22],
+        buildings: Vec::new(alloc),
+    }
+}
+
+/// Player 1 with planets at two places and no technologies.
+fn account(alloc: Global, first: Coord, second: Coord) -> Result<Account, AllocError>
+    ensures player { IfOk result (λ account. account.player.k ≡ 1) }
+    ensures planets { IfOk result (λ account. account.planets.items ≡ first ∷ second ∷ []) }
+    ensures units { IfOk result (λ account. account.units ≡ 0) }
+{
+    Ok(Account {
+        player: Player { k: 1 },
+        techs: Techs { n: [0; 14] },
+        planets: vec![in alloc; first, second]?,
+        units: 0,
+    })
+}
+
+/// A universe at second 0 with one player and planets at two places.
+fn base(alloc: Global, first: Coord, second: Coord) -> Result<Base, AllocError>
+    requires { coord_before first second ≡ true }
+    ensures { IfOk result IsSound }
+{
+    Ok(Base {
+        seed: 7,
+        speed: 1,
+        capacity: 10000,
+        moment: 0,
+        number: 0,
+        accounts: vec![in alloc; account(alloc, first, second)?]?,
+        planets: vec![in alloc; planet(alloc, first), planet(alloc, second)]?,
+    })
+}
+
+/// Player 1 asks. If memory runs out, all cells stay as they were.
+fn ask(
+    rt: &impl Abort,
+    alloc: Global,
+    universe: &mut LazyUniverse,
+    req: Request,
+    reading: u64,
+) -> Result<Reply, Fail>
+    requires keeps { KeepsSome universe.old }
+    requires reading { reading ≤ LATEST }
+    ensures { KeepsSome universe.new }
+{
+    assert!(rt; universe.number < LAST_NUMBER);
+    Ok(universe.ask(alloc, Player { k: 1 }, &req, reading)?)
+}
+
+#[test]
+fn a_planet_is_the_same_however_often_it_was_asked_for(rt: HostRuntime) -> Result<(), Fail> {
+    let mut universe = LazyUniverse::new(rt.alloc(), &base(rt.alloc(), FIRST, SECOND)?)?;
+    ask(
+        &rt,
+        rt.alloc(),
+        &mut universe,
+        Request::Build(FIRST, MINE),
+        0,
+    )?;
+    ask(
+        &rt,
+        rt.alloc(),
+        &mut universe,
+        Request::Build(SECOND, MINE),
+        0,
+    )?;
+    'readings: for reading in 1..3600 {
+        ask(
+            &rt,
+            rt.alloc(),
+            &mut universe,
+            Request::Planet(FIRST),
+            reading,
+        )?;
+    }
+    let often = ask(&rt, rt.alloc(), &mut universe, Request::Planet(FIRST), 3600)?;
+    let once = ask(
+        &rt,
+        rt.alloc(),
+        &mut universe,
+        Request::Planet(SECOND),
+        3600,
+    )?;
+    assert_eq!(rt;
+        often.body.as_slice(),
+        b"planet 1:1:1 1 40 163 1\nstock 460 495 0\nhourly 20 10 0\nlimit 10000 10000 10000\nenergy 0 11\ndebris 0 0\nlevel metalmine 1\n".as_slice(),
+    );
+    assert_eq!(rt;
+        once.body.as_slice(),
+        b"planet 1:1:2 1 40 163 1\nstock 460 495 0\nhourly 20 10 0\nlimit 10000 10000 10000\nenergy 0 11\ndebris 0 0\nlevel metalmine 1\n".as_slice(),
+    );
+    Ok(())
+}
+
+// Each allocation may fail: `rt try --test --fail-alloc N`.
+#[test]
+fn without_memory_the_cells_stay(rt: HostRuntime) -> Result<(), Fail> {
+    let mut universe = LazyUniverse::new(rt.alloc(), &base(rt.alloc(), FIRST, SECOND)?)?;
+    let before = universe.dump(rt.alloc())?;
+    assert!(rt; universe.number < LAST_NUMBER);
+    let req = Request::Build(FIRST, MINE);
+    let reply = match universe.ask(rt.alloc(), Player { k: 1 }, &req, 5) {
+        Ok(reply) => reply,
+        Err(_) => {
+            assert_eq!(rt; universe.dump(rt.alloc())?.as_slice(), before.as_slice());
+            ask(&rt, rt.alloc(), &mut universe, req, 5)?
+        }
+    };
+    assert_eq!(rt; (reply.number, reply.moment, reply.code), (1, 5, 0));
+    assert_eq!(rt; reply.body.as_slice(), b"starts 1 113\n".as_slice());
+    Ok(())
+}

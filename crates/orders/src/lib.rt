@@ -1,0 +1,13 @@
+//! The requests of players: what each comes to, what it changes of the parts that it asks for, and the lines that show them.
+#![tactic(auto)]
+
+mod acting;
+mod parts;
+mod writing;
+
+pub use acting::act;
+pub use parts::{Acted, Parts};
+pub use writing::{account_lines, planet_lines};
+
+#[cfg(test)]
+mod tests;
