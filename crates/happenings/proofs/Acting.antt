@@ -46,7 +46,7 @@ new-building at item later queue olds follows x is =
     (λ i. same_cell (Planet at) (found.2.place i) && same_class Buildings (found.2.class i)) ∙ olds found.0 (inr found.1)
 
 -- the state before and after an event, at the event's cell
-event-seen : (setting : Setting) (state : State) (at : Coord) (fields : PlanetFields) (items : List Item) (item : Item) (later : List Item)
+pub event-seen : (setting : Setting) (state : State) (at : Coord) (fields : PlanetFields) (items : List Item) (item : Item) (later : List Item)
     → view setting.cells state (Planet at) ≡ planet_seen (of_planet fields) items → items ≡ item ∷ later → item.cell ≡ Planet at
     → ((x : Item) → IsIn x items → is_building_at (Planet at) x ≡ true)
     → view setting.cells (effect setting (built item later) state) (Planet at)
