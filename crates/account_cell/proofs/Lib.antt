@@ -1,0 +1,5 @@
+pub mod Counts
+pub mod Queues
+pub mod Reasons
+pub mod Spans
+pub mod Starts

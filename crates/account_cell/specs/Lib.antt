@@ -1,1 +1,3 @@
 pub mod Account
+pub mod Bounds
+pub mod Queue

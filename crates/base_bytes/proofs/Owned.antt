@@ -20,7 +20,7 @@ use Rattle.planet_cell.specs.declared.planet.Planet.{Planet}
 use Rattle.tick_model.proofs.Lists.{cell-from, cell-is, fails}
 use Rattle.tick_model.specs.Requests.{is_there}
 use Rattle.tick_model.specs.Rules.{IsIn}
-use Rattle.tick_model.specs.Universe.{Own, of_nothing, of_account, of_planet, PlanetFields}
+use Rattle.tick_model.specs.Universe.{Own, of_nothing, of_account, of_planet, Item, PlanetFields}
 use Rattle.tick_model.specs.Views.{holding}
 
 player_of : CellId → Player → Player
@@ -95,9 +95,9 @@ there-listed accounts planets (PlanetId at) there =
     subst (λ (place : Coord). Contains (cells_of accounts planets) (PlanetId place)) (place-one comes.0.at at found.1) (planet-listed accounts planets comes.0 found.0)
 
 -- an account holds no planet's units
-pub no-holding : (found : Option Account) → holding (own_account found) ≡ None
-no-holding None = refl
-no-holding (Some account) = refl
+pub no-holding : (found : Option Account) (batches : List Item) → holding (own_account found) batches ≡ None
+no-holding None batches = refl
+no-holding (Some account) batches = refl
 
 fields-come : (found : Option Planet) (fields : PlanetFields) → own_planet found ≡ of_planet fields → (planet : Planet) × (found ≡ Some planet) × (fields_of planet ≡ fields)
 fields-come None fields same = absurd cc

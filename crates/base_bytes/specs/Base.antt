@@ -1,13 +1,13 @@
 -- The universe that a base of the program stands for.
 use Rattle.std.specs.Prelude.{List, [], ◌++◌, find, map, Option, None, Some}
 use Rattle.std.specs.List.{flat_map}
-use Rattle.account_cell.specs.Account.{account_fields}
+use Rattle.account_cell.specs.Account.{account_fields, account_queue, research_of}
 use Rattle.account_cell.specs.declared.account.Account.{Account}
 use Rattle.base_bytes.specs.declared.base.Base.{Base}
 use Rattle.base_ids.specs.Cells.{same_coord, same_player}
 use Rattle.base_ids.specs.declared.cell_id.CellId.{CellId}
 use Rattle.base_ids.specs.declared.cell_id.CellId.TheVariants.{Account as AccountId, Planet as PlanetId}
-use Rattle.planet_cell.specs.Planet.{fields_of, items_of}
+use Rattle.planet_cell.specs.Planet.{batches_of, buildings_of, fields_of, queue_of}
 use Rattle.planet_cell.specs.declared.planet.Planet.{Planet}
 use Rattle.tick_model.specs.Universe.{Item, Own, of_nothing, of_account, of_planet, Setting, Universe}
 use Rattle.tick_model.specs.Views.{View}
@@ -37,9 +37,13 @@ abbrev pub own_of : List Account → List Planet → CellId → Own
 own_of accounts planets (AccountId player) = own_account (find (λ account. same_player account.player player) accounts)
 own_of accounts planets (PlanetId at) = own_planet (find (λ planet. same_coord planet.at at) planets)
 
+-- the items of the queues of a planet
+abbrev pub planet_items : Planet → List Item
+planet_items planet = buildings_of planet ++ batches_of planet
+
 -- the items of all queues
-abbrev pub all_items : List Planet → List Item
-all_items planets = flat_map items_of planets
+abbrev pub all_items : List Account → List Planet → List Item
+all_items accounts planets = flat_map research_of accounts ++ flat_map planet_items planets
 
 -- the universe of a base; no fleet flies yet
 abbrev pub universe_of : Base → Universe
@@ -51,7 +55,7 @@ universe_of base =
           record {
             number = base.number;
             own = own_of base.accounts.items base.planets.items;
-            items = all_items base.planets.items;
+            items = all_items base.accounts.items base.planets.items;
             fleets = [];
           };
     }
@@ -59,8 +63,8 @@ universe_of base =
 -- what is seen of an account
 abbrev pub account_seen : Account → View
 account_seen account =
-    record { own = of_account (account_fields account); items = []; fleets = []; planets = account.planets.items; units = account.units }
+    record { own = of_account (account_fields account); queue = account_queue account; fleets = []; planets = account.planets.items; units = account.units }
 
 -- what is seen of a planet
 abbrev pub planet_seen : Planet → View
-planet_seen planet = record { own = of_planet (fields_of planet); items = items_of planet; fleets = []; planets = []; units = 0 }
+planet_seen planet = record { own = of_planet (fields_of planet); queue = queue_of planet; fleets = []; planets = []; units = 0 }

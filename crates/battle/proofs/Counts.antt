@@ -1,8 +1,8 @@
 -- The units that are left, counted by their kinds.
-use Rattle.std.proofs.Common.{◌≡◌, ◌≢◌, ℕ, ◌+◌, ◌-◌, ◌<◌, ◌≤◌, ◌==◌, ◌&&◌, Bool, cond, List, [], ◌∷◌, ◌++◌, length, length-take, map, take, get_or, refl, ap, sym, ◌∙◌, subst, arith, inl, inr, add-zero}
+use Rattle.std.proofs.Common.{◌≡◌, ◌≢◌, ℕ, ◌+◌, ◌-◌, ◌<◌, ◌≤◌, ◌==◌, ◌&&◌, Bool, cond, List, [], ◌∷◌, ◌++◌, length, map, get_or, refl, ap, sym, ◌∙◌, subst, arith, inl, inr, add-zero}
 use Rattle.std.specs.List.{enumerate_from, range_with_len}
 use Rattle.std.proofs.Math.ListN.{set}
-use Rattle.std.proofs.lemmas.List.{ext_get_or, get_or-map, get_or-set_other, get_or-set_same, get_or_append_left, get_or-append_right, length-map, length-set, map_more}
+use Rattle.std.proofs.lemmas.List.{ext_get_or, get_or-map, get_or-set_other, get_or-set_same, get_or_append_left, get_or-append_right, length-map, length-set}
 use Rattle.std.proofs.lemmas.List.Sums.{count_by-le-length, sum_by-append, sum_by-cons}
 use Rattle.std.proofs.lemmas.List.FromFn.{get_or-enumerate_from, get_or-range_with_len, length-enumerate_from}
 use Rattle.std.proofs.lemmas.Bool.{cases_eq, cases_lt, eq-eqb, ne_eqb}
@@ -10,10 +10,8 @@ use Rattle.catalog.specs.Kinds.{kind_number}
 use Rattle.catalog.specs.declared.classes.TheConstants.{UNIT_KINDS}
 use Rattle.catalog.specs.declared.kind.Kind.{Kind}
 use Rattle.catalog.specs.declared.kind.Kind.TheVariants.{SmallCargo}
-use Rattle.battle.specs.declared.combatant.Combatant.{Combatant}
 use Rattle.battle.specs.declared.fighter.Fighter.{Fighter}
 use Rattle.battle.specs.declared.part.Part.{Part}
-use Rattle.battle.specs.Course.{fighters_of}
 use Rattle.battle.specs.Outcomes.{count_of, survivors}
 use Rattle.battle.specs.Places.{GainsOne, unit_number}
 use Rattle.battle.specs.Trace.{one_if}
@@ -190,43 +188,31 @@ survivor_count living parts at place d within inside =
     let counted = count_by-le-length (λ f. f.part == at && kind_number f.kind == kind_number (get_or UNIT_KINDS place SmallCargo)) living in
     rw (survivor_at living parts at d within, count_at living at place inside) counted
 
--- a combatant more is looked at: one of a part
-pub kept_more : (living : List Combatant) (i : ℕ) (c : Combatant) (parts side after : List Part) (at d : Part) → i < length living
-    → side ≡ survivors (fighters_of (take i living)) parts → (get_or living i c).fighter.part < length side
-    → GainsOne (get_or living i c).fighter.kind (get_or side (get_or living i c).fighter.part d) at
-    → after ≡ set side (get_or living i c).fighter.part at
-    → after ≡ survivors (fighters_of (take (i + 1) living)) parts
-kept_more living i c parts side after at d within so_far inside gains after_is =
-    let f = (get_or living i c).fighter in
-    let counted = fighters_of (take i living) in
-    let more : fighters_of (take (i + 1) living) ≡ counted ++ f ∷ [] = map_more (λ (x : Combatant). x.fighter) living i c within in
+-- a unit more is looked at: one of a part
+pub kept_more : (before more : List Fighter) (f : Fighter) (parts side after : List Part) (at d : Part) → more ≡ before ++ f ∷ []
+    → side ≡ survivors before parts → f.part < length side → GainsOne f.kind (get_or side f.part d) at → after ≡ set side f.part at
+    → after ≡ survivors more parts
+kept_more before more f parts side after at d one so_far inside gains after_is =
     let P : List Part → Type 0 = λ s. GainsOne f.kind (get_or s f.part d) at in
-    let long = ap length so_far ∙ length-survivors counted parts in
+    let long = ap length so_far ∙ length-survivors before parts in
     after_is
     ∙ ap (λ (s : List Part). set s f.part at) so_far
-    ∙ survivors_more counted f parts at d (omega (arith, inside, long)) (subst P so_far gains)
-    ∙ ap (λ (fs : List Fighter). survivors fs parts) (sym more)
+    ∙ survivors_more before f parts at d (omega (arith, inside, long)) (subst P so_far gains)
+    ∙ ap (λ (fs : List Fighter). survivors fs parts) (sym one)
 
--- a combatant more is looked at: one of no part
-pub kept_same : (living : List Combatant) (i : ℕ) (c : Combatant) (parts side after : List Part) (d : Part) → i < length living
-    → side ≡ survivors (fighters_of (take i living)) parts → length side ≤ (get_or living i c).fighter.part
-    → after ≡ side
-    → after ≡ survivors (fighters_of (take (i + 1) living)) parts
-kept_same living i c parts side after d within so_far outside after_is =
-    let f = (get_or living i c).fighter in
-    let counted = fighters_of (take i living) in
-    let more : fighters_of (take (i + 1) living) ≡ counted ++ f ∷ [] = map_more (λ (x : Combatant). x.fighter) living i c within in
-    let long = ap length so_far ∙ length-survivors counted parts in
-    after_is ∙ so_far ∙ survivors_same counted f parts d (omega (arith, outside, long)) ∙ ap (λ (fs : List Fighter). survivors fs parts) (sym more)
+-- a unit more is looked at: one of no part
+pub kept_same : (before more : List Fighter) (f : Fighter) (parts side after : List Part) (d : Part) → more ≡ before ++ f ∷ []
+    → side ≡ survivors before parts → length side ≤ f.part → after ≡ side
+    → after ≡ survivors more parts
+kept_same before more f parts side after d one so_far outside after_is =
+    let long = ap length so_far ∙ length-survivors before parts in
+    after_is ∙ so_far ∙ survivors_same before f parts d (omega (arith, outside, long)) ∙ ap (λ (fs : List Fighter). survivors fs parts) (sym one)
 
--- no count is above how many combatants were looked at
-pub kept_room : (living : List Combatant) (i at most : ℕ) (parts side : List Part) (d : Part) → i < length living → length living ≤ most
-    → side ≡ survivors (fighters_of (take i living)) parts → at < length side → (place : ℕ) → place < 22 → get_or (get_or side at d).n place 0 < most
-kept_room living i at most parts side d within limit so_far inside place below =
-    let counted = fighters_of (take i living) in
-    let long = ap length so_far ∙ length-survivors counted parts in
-    let count = survivor_count counted parts at place d (omega (arith, inside, long)) below in
-    let fewer = length-map (take i living) (λ (x : Combatant). x.fighter) in
-    let taken = length-take i living in
+-- no count is above how many units were looked at
+pub kept_room : (before : List Fighter) (at most : ℕ) (parts side : List Part) (d : Part) → length before < most
+    → side ≡ survivors before parts → at < length side → (place : ℕ) → place < 22 → get_or (get_or side at d).n place 0 < most
+kept_room before at most parts side d fewer so_far inside place below =
+    let long = ap length so_far ∙ length-survivors before parts in
+    let count = survivor_count before parts at place d (omega (arith, inside, long)) below in
     let same = ap (λ (s : List Part). get_or (get_or s at d).n place 0) so_far in
-    omega (arith, count, fewer, taken, same, within, limit)
+    omega (arith, count, same, fewer)

@@ -14,8 +14,10 @@ pub mod CourseEnds
 pub mod Strengths
 pub mod OneShot
 pub mod Volleys
+pub mod Shown
 pub mod Musters
 pub mod RoundByRound
 pub mod Changes
 pub mod Counts
 pub mod UnitCounts
+pub mod Rows

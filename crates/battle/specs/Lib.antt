@@ -5,5 +5,7 @@ pub mod Rules
 pub mod Trace
 pub mod Outcomes
 pub mod Course
+pub mod Arrays
+pub mod Columns
 pub mod Places
 pub mod Ending

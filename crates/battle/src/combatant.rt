@@ -1,9 +1,7 @@
-ghost use Rattle.std.specs.Prelude.{◌≡◌};
-ghost use Rattle.battle.specs.declared.combatant.Combatant.{Combatant};
-
 use crate::fighter::Fighter;
 
-/// A unit in a battle, as the next shot finds it. All strengths are in tenths.
+/// A unit in a battle, as the next shot finds it. All strengths are in tenths. Contracts speak of combatants; the code
+/// keeps a `UnitState` of each unit.
 #[derive(Clone, Copy)]
 pub(crate) struct Combatant {
     pub(crate) fighter: Fighter,
@@ -12,20 +10,4 @@ pub(crate) struct Combatant {
     /// What is left of its hull.
     pub(crate) hull: u32,
     pub(crate) is_destroyed: bool,
-}
-
-impl Combatant {
-    ghost use Rattle.battle.specs.Course.{unhurt};
-
-    /// The unit at the start of a battle.
-    pub(crate) fn new(fighter: Fighter) -> Combatant
-        ensures { result ≡ unhurt fighter }
-    {
-        Combatant {
-            fighter,
-            shield: fighter.shield,
-            hull: fighter.hull,
-            is_destroyed: false,
-        }
-    }
 }

@@ -5,7 +5,7 @@ ghost use Rattle.catalog.specs.Costs.{cost_of};
 
 use catalog::{Kind, Technology, Techs};
 
-/// A unit with its full strength, in tenths.
+/// A unit with its full strength, in tenths. Units of one kind in one part share one.
 #[derive(Clone, Copy)]
 pub(crate) struct Fighter {
     /// The place of its part in the side.

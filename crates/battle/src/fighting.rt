@@ -33,7 +33,7 @@ pub fn fight(
     let rounds = fight_rounds(&mut attackers, &mut planet, &mut draws);
     att.keep(&attackers);
     def.keep(&planet);
-    let verdict = verdict(attackers.len(), planet.len());
+    let verdict = verdict(attackers.units.len(), planet.units.len());
     Ok(Outcome { verdict, rounds })
 }
 

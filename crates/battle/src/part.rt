@@ -1,7 +1,7 @@
-ghost use Rattle.std.specs.Prelude.{◌≡◌, List, [], ◌∷◌, ◌++◌, ◌==◌, ◌≤◌, ◌↔◌, length, IsTrue, OnOk, OnErr};
+ghost use Rattle.std.specs.Prelude.{◌≡◌, List, [], ◌∷◌, ◌++◌, ◌==◌, ◌≤◌, ◌↔◌, length, map, IsTrue, OnOk, OnErr};
 ghost use Rattle.battle.specs.declared.part.Part.{Part};
 
-use crate::combatant::Combatant;
+use crate::army::Army;
 use crate::ready::{is_in_order, is_within_limit};
 use crate::survivors::keep;
 use catalog::Techs;
@@ -33,7 +33,7 @@ impl Model for Side {
 }
 
 impl Side {
-    ghost use Rattle.battle.specs.Course.{fighters_of};
+    ghost use Rattle.battle.specs.Arrays.{AreKnown, fighter_of};
     ghost use Rattle.battle.specs.Outcomes.{survivors};
     ghost use Rattle.battle.specs.Sides.{IsSide};
     ghost use Rattle.battle.specs.declared.limits.TheConstants.{MOST_UNITS};
@@ -85,10 +85,11 @@ impl Side {
     }
 
     /// Gives each part the units that are left of it.
-    pub(crate) fn keep(&mut self, living: &[Combatant])
-        requires { length living.now ≤ MOST_UNITS }
-        ensures { self.new ≡ survivors (fighters_of living.now) self.old }
+    pub(crate) fn keep(&mut self, living: &Army)
+        requires most { length living.now.units.items ≤ MOST_UNITS }
+        requires known { AreKnown (length living.now.table.items) living.now.units.items }
+        ensures { self.new ≡ survivors (map (fighter_of living.now.table.items) living.now.units.items) self.old }
     {
-        keep(&mut self.parts, living);
+        keep(&mut self.parts, &living.table, &living.units);
     }
 }

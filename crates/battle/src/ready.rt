@@ -32,6 +32,18 @@ pub(crate) fn is_within_limit(parts: &[Part]) -> bool
     true
 }
 
+/// How many units a side has that has no more than a side may have.
+pub(crate) fn side_count(parts: &[Part]) -> u64
+    requires { length (fighters parts.now) ≤ MOST_UNITS }
+    ensures { result ≡ length (fighters parts.now) }
+{
+    let mut units = 0;
+    'parts: for part in parts {
+        units += unit_count(part);
+    }
+    units
+}
+
 /// How many units a part has.
 #[tactic(auto, using(crate::proofs::UnitCounts::part_counts))]
 fn unit_count(part: &Part) -> u64

@@ -1,81 +1,88 @@
-ghost use Rattle.std.specs.Prelude.{◌≡◌, ℕ, ◌+◌, ◌≤◌, ◌&&◌, filter, length, map, nat_lt, not};
-ghost use Rattle.battle.specs.Course.{after_round, after_rounds, standing, with_full_shield};
-ghost use Rattle.battle.specs.declared.limits.TheConstants.{MOST_ROUNDS, MOST_UNITS};
+ghost use Rattle.std.specs.Prelude.{◌≡◌, ℕ, ◌+◌, ◌≤◌, ◌&&◌, filter, length, nat_lt, not};
+ghost use Rattle.battle.specs.Arrays.{IsReady, shown};
+ghost use Rattle.battle.specs.Course.{after_round, after_rounds, after_volley, standing};
+ghost use Rattle.battle.specs.declared.limits.TheConstants.{MOST_ROUNDS};
 
-use crate::combatant::Combatant;
+use crate::army::Army;
 use crate::firing::volley;
 use crate::limits::MOST_ROUNDS;
+use crate::unit_state::UnitState;
 use draws::Draws;
 
 /// Fights the rounds of a battle, six at most and each only if both sides have units. It answers how many were fought.
-pub(crate) fn fight_rounds(
-    attackers: &mut Vec<Combatant>,
-    planet: &mut Vec<Combatant>,
-    draws: &mut Draws,
-) -> u8
-    requires attackers_most { length attackers.old.items ≤ MOST_UNITS }
-    requires planet_most { length planet.old.items ≤ MOST_UNITS }
-    ensures course { record { attackers = attackers.new.items; planet = planet.new.items; stream = draws.new; rounds = result }
-        ≡ after_rounds MOST_ROUNDS (record { attackers = attackers.old.items; planet = planet.old.items; stream = draws.old; rounds = 0 }) }
-    ensures attackers_fewer { length attackers.new.items ≤ MOST_UNITS }
-    ensures planet_fewer { length planet.new.items ≤ MOST_UNITS }
+/// Rounds are counted from 0.
+pub(crate) fn fight_rounds(attackers: &mut Army, planet: &mut Army, draws: &mut Draws) -> u8
+    requires attackers { IsReady 0 attackers.old }
+    requires planet { IsReady 0 planet.old }
+    ensures course { record { attackers = shown result attackers.new; planet = shown result planet.new; stream = draws.new; rounds = result }
+        ≡ after_rounds MOST_ROUNDS (record { attackers = shown 0 attackers.old; planet = shown 0 planet.old; stream = draws.old; rounds = 0 }) }
+    ensures attackers { IsReady result attackers.new }
+    ensures planet { IsReady result planet.new }
 {
     'rounds: for round in 0..MOST_ROUNDS {
         if !both_stand(attackers, planet) {
             return round;
         }
-        fight_round(attackers, planet, draws);
+        fight_round(attackers, planet, round, draws);
     }
     MOST_ROUNDS
 }
 
 /// Whether both sides have units.
-fn both_stand(attackers: &[Combatant], planet: &[Combatant]) -> bool
-    ensures { result ≡ (nat_lt 0 (length attackers.now) && nat_lt 0 (length planet.now)) }
+fn both_stand(attackers: &Army, planet: &Army) -> bool
+    ensures { result ≡ (nat_lt 0 (length attackers.now.units.items) && nat_lt 0 (length planet.now.units.items)) }
 {
-    !attackers.is_empty() && !planet.is_empty()
+    !attackers.units.is_empty() && !planet.units.is_empty()
 }
 
 /// One round: first the attackers fire, then the planet, and then the destroyed units are gone.
-fn fight_round(attackers: &mut Vec<Combatant>, planet: &mut Vec<Combatant>, draws: &mut Draws)
-    requires attackers_some { 1 ≤ length attackers.old.items }
-    requires planet_some { 1 ≤ length planet.old.items }
-    requires attackers_most { length attackers.old.items ≤ MOST_UNITS }
-    requires planet_most { length planet.old.items ≤ MOST_UNITS }
-    ensures round { (rounds : ℕ)
-        → record { attackers = attackers.new.items; planet = planet.new.items; stream = draws.new; rounds = rounds + 1 }
-        ≡ after_round (record { attackers = attackers.old.items; planet = planet.old.items; stream = draws.old; rounds = rounds }) }
-    ensures attackers_fewer { length attackers.new.items ≤ length attackers.old.items }
-    ensures planet_fewer { length planet.new.items ≤ length planet.old.items }
+fn fight_round(attackers: &mut Army, planet: &mut Army, round: u8, draws: &mut Draws)
+    requires attackers_some { 1 ≤ length attackers.old.units.items }
+    requires planet_some { 1 ≤ length planet.old.units.items }
+    requires attackers { IsReady round attackers.old }
+    requires planet { IsReady round planet.old }
+    ensures round { record { attackers = shown (round + 1) attackers.new; planet = shown (round + 1) planet.new; stream = draws.new; rounds = round + 1 }
+        ≡ after_round (record { attackers = shown round attackers.old; planet = shown round planet.old; stream = draws.old; rounds = round }) }
+    ensures attackers { IsReady (round + 1) attackers.new }
+    ensures planet { IsReady (round + 1) planet.new }
 {
-    volley(attackers, planet, draws);
-    volley(planet, attackers, draws);
+    fight_half(attackers, planet, round, draws);
+    fight_half(planet, attackers, round, draws);
     keep_standing(attackers);
     keep_standing(planet);
 }
 
-/// Keeps the units that still stand, with their full shields.
-fn keep_standing(units: &mut Vec<Combatant>)
-    ensures standing { units.new.items ≡ standing units.old.items }
-    ensures fewer { length units.new.items ≤ length units.old.items }
+/// A half of a round: these units fire at those.
+fn fight_half(shooters: &Army, targets: &mut Army, round: u8, draws: &mut Draws)
+    requires some { 1 ≤ length targets.old.units.items }
+    requires shooters { IsReady round shooters.now }
+    requires ready { IsReady round targets.old }
+    ensures targets { shown round targets.new ≡ (after_volley (shown round shooters.now) (shown round targets.old) draws.old).targets }
+    ensures words { draws.new ≡ (after_volley (shown round shooters.now) (shown round targets.old) draws.old).stream }
+    ensures ready { IsReady round targets.new }
 {
-    remove_destroyed(units);
-    raise_shields(units);
+    volley(
+        &shooters.table,
+        &shooters.units,
+        round,
+        &targets.table,
+        &mut targets.units,
+        draws,
+    );
+}
+
+/// Keeps the units that still stand. In the next round their shields are full.
+fn keep_standing(army: &mut Army)
+    ensures standing { (round : ℕ) → IsReady round army.old → shown (round + 1) army.new ≡ standing (shown round army.old) }
+    ensures ready { (round : ℕ) → IsReady round army.old → IsReady (round + 1) army.new }
+{
+    remove_destroyed(&mut army.units);
 }
 
 /// Removes the destroyed units.
-fn remove_destroyed(units: &mut Vec<Combatant>)
+fn remove_destroyed(units: &mut Vec<UnitState>)
     ensures kept { units.new.items ≡ filter (λ unit. not unit.is_destroyed) units.old.items }
     ensures fewer { length units.new.items ≤ length units.old.items }
 {
     units.retain(|unit| !unit.is_destroyed);
-}
-
-/// Gives all units their full shields.
-fn raise_shields(units: &mut [Combatant])
-    ensures { units.new ≡ map with_full_shield units.old }
-{
-    'units: for unit in units.iter_mut() {
-        unit.shield = unit.fighter.shield;
-    }
 }

@@ -1,24 +1,27 @@
-ghost use Rattle.std.specs.Prelude.{◌≡◌, ◌≢◌, ℕ, ◌+◌, ◌<◌, ◌≤◌, [], length, slice_index, IfNone, IfSome};
+ghost use Rattle.std.specs.Prelude.{◌≡◌, ◌≢◌, ℕ, ◌+◌, ◌<◌, ◌≤◌, [], length, map, slice_index, IfNone, IfSome};
 ghost use Rattle.catalog.specs.Kinds.{kind_number};
-ghost use Rattle.battle.specs.Course.{fighters_of};
+ghost use Rattle.battle.specs.Arrays.{AreKnown, fighter_of};
 ghost use Rattle.battle.specs.Outcomes.{survivors};
 ghost use Rattle.battle.specs.Places.{GainsOne, unit_number};
 ghost use Rattle.battle.specs.declared.limits.TheConstants.{MOST_UNITS};
 
-use crate::combatant::Combatant;
+use crate::fighter::Fighter;
 use crate::part::Part;
+use crate::unit_state::UnitState;
 use catalog::{Kind, UNIT_KINDS};
 
-/// Gives each part of a side the units that are left of it.
-pub(crate) fn keep(side: &mut [Part], living: &[Combatant])
-    requires { length living.now ≤ MOST_UNITS }
-    ensures { side.new ≡ survivors (fighters_of living.now) side.old }
+/// Gives each part of a side the units that are left of it. The table has their strengths.
+pub(crate) fn keep(side: &mut [Part], table: &[Fighter], living: &[UnitState])
+    requires most { length living.now ≤ MOST_UNITS }
+    requires known { AreKnown (length table.now) living.now }
+    ensures { side.new ≡ survivors (map (fighter_of table.now) living.now) side.old }
 {
     clear(side);
     'living: for unit in living {
-        let place = unit.fighter.part;
+        let fighter = &table[unit.strength as usize];
+        let place = fighter.part;
         if place < side.len() {
-            add_one(&mut side[place], unit.fighter.kind);
+            add_one(&mut side[place], fighter.kind);
         }
     }
 }

@@ -481,6 +481,51 @@ fn left_of(side: &Side, place: usize) -> (u64, u64) {
     (units, numbers)
 }
 
+/// Eight fleets of 100000 small cargos cannot harm a large dome, and it cannot harm one of them for good: as many units as
+/// a side may have fight six rounds, and nothing is lost.
+#[test]
+fn the_largest_side_and_a_large_dome_end_in_a_draw(rt: HostRuntime) -> Result<(), Fail> {
+    let mut attackers = Side::new(rt.alloc());
+    let mut planet = Side::new(rt.alloc());
+    for number in 1..9 {
+        attackers.push(part(number, NO_TECHS, &[(SmallCargo, 100_000)]))?;
+    }
+    planet.push(part(0, NO_TECHS, &[(LargeDome, 1)]))?;
+    assert!(rt; attackers.can_fight() && planet.can_fight());
+    let outcome = fight(rt.alloc(), &mut attackers, &mut planet, 7, 1)?;
+    assert_eq!(rt;
+        outcome,
+        Outcome {
+            verdict: Verdict::Draw,
+            rounds: 6
+        }
+    );
+    assert_eq!(rt; left_of(&attackers, 0), (800_000, 3_600_000));
+    assert_eq!(rt; left_of(&planet, 21), (1, 0));
+    Ok(())
+}
+
+/// As many units as a side may have, on both sides; computed by the plain program of bench/battle.
+#[test]
+fn the_largest_sides_fight(rt: HostRuntime) -> Result<(), Fail> {
+    let mut attackers = Side::new(rt.alloc());
+    let mut planet = Side::new(rt.alloc());
+    attackers.push(part(1, NO_TECHS, &[(Battleship, 800_000)]))?;
+    planet.push(part(0, NO_TECHS, &[(PlasmaTurret, 800_000)]))?;
+    assert!(rt; attackers.can_fight() && planet.can_fight());
+    let outcome = fight(rt.alloc(), &mut attackers, &mut planet, 7, 1)?;
+    assert_eq!(rt;
+        outcome,
+        Outcome {
+            verdict: Verdict::Planet,
+            rounds: 4
+        }
+    );
+    assert_eq!(rt; left_of(&attackers, 5), (0, 0));
+    assert_eq!(rt; left_of(&planet, 19), (764_049, 0));
+    Ok(())
+}
+
 #[test]
 fn a_side_can_fight_in_order_and_within_the_limit(rt: HostRuntime) -> Result<(), Fail> {
     let first = Part {

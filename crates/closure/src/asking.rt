@@ -49,7 +49,11 @@ fn named_place(req: &Request) -> Option<Coord>
         (λ at. (seen : CellId → View) (cell : CellId) → names seen req.now cell ≡ same_cell (Planet at) cell) }
 {
     match req {
-        Request::Planet(at) | Request::Build(at, _) | Request::Set(at, _, _) => Some(*at),
+        Request::Planet(at)
+        | Request::Build(at, _)
+        | Request::Research(at, _)
+        | Request::Yard(at, _, _)
+        | Request::Set(at, _, _) => Some(*at),
         _ => None,
     }
 }

@@ -30,7 +30,12 @@ fn is_answered_today(req: &Request) -> bool
 {
     matches!(
         req,
-        Request::Planet(_) | Request::Build(..) | Request::Set(..)
+        Request::Planet(_)
+            | Request::Account
+            | Request::Build(..)
+            | Request::Research(..)
+            | Request::Yard(..)
+            | Request::Set(..)
     )
 }
 

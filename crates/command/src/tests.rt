@@ -2,6 +2,8 @@ ghost use Rattle.std.specs.Prelude.{None};
 
 mod buildings;
 mod dumps;
+mod researches;
+mod yards;
 
 use crate::{DONE, NOT_A_COMMAND, NOT_FOUNDED, SINK_FAULT, SOURCE_FAULT, run};
 use ports::{Failed, MemoryClock, MemorySink, MemorySource, Sink, Source};
@@ -82,7 +84,7 @@ fn asking_at_every_second_is_asking_once(rt: HostRuntime) -> Result<(), Fail> {
 type Answers<'a> = (&'a [u8], &'a [u8]);
 
 /// Refusals and bad lines, of which only the first take a number.
-const SHORT_ANSWERS: [Answers; 12] = [
+const SHORT_ANSWERS: [Answers; 13] = [
     (b"", b""),
     (
         b"@0 2 planet 1:1:1\n@5 1 planet 1:1:2\n@5 2 planet 1:1:2",
@@ -91,6 +93,10 @@ const SHORT_ANSWERS: [Answers; 12] = [
     (
         b"@100 2 planet 1:1:1\n@50 2 planet 1:1:1\n",
         b"no 1 100 1\nno 2 100 1\n",
+    ),
+    (
+        b"@100 1 account\n@50 1 account\n",
+        b"ok 1 100\naccount 1 0 0 1\nplanet 1:1:1\n.\nok 2 100\naccount 1 0 0 1\nplanet 1:1:1\n.\n",
     ),
     (
         b"hello\n@7 2 planet 1:1:1\n\n@7 2 planet 1:1:1\n",
@@ -109,7 +115,7 @@ const SHORT_ANSWERS: [Answers; 12] = [
         b"bad 1\nbad 1\nbad 1\n",
     ),
     (
-        b"@1 1 account\n@1 1 research 1:1:1 combustion\n@1 1 send 1:1:1 1:1:2 deploy 10 probe=1 0 0 0\n",
+        b"@1 1 fleets\n@1 1 recall 5\n@1 1 send 1:1:1 1:1:2 deploy 10 probe=1 0 0 0\n",
         b"bad 1\nbad 1\nbad 1\n",
     ),
     (
@@ -290,12 +296,21 @@ fn answers_at<'a>(
 #[test]
 fn a_line_without_a_reading_reads_the_clock_once(rt: HostRuntime) -> Result<(), Fail> {
     let script =
-        b"2 planet 1:1:1\nplant\n@5 2 planet 1:1:1\n1 account\n3 planet 1:1:1\r\n2 planet 9:9:9\n";
+        b"2 planet 1:1:1\nplant\n@5 2 planet 1:1:1\n1 fleets\n3 planet 1:1:1\r\n2 planet 9:9:9\n";
     let (status, sink, clock) = answers_at(rt.alloc(), script, &[3600, 3500, 3700])?;
     assert_eq!(rt; status, DONE);
     let wanted = b"no 1 3600 1\nbad 1\nno 2 3600 1\nbad 1\nno 3 3600 1\nno 4 3700 1\n";
     assert_eq!(rt; sink.written(), wanted.as_slice());
     assert_eq!(rt; clock.count, 3);
+    Ok(())
+}
+
+#[test]
+fn an_account_is_told_at_the_reading_of_the_clock(rt: HostRuntime) -> Result<(), Fail> {
+    let (status, sink, clock) = answers_at(rt.alloc(), b"1 account\r\n", &[3600])?;
+    assert_eq!(rt; status, DONE);
+    assert_eq!(rt; sink.written(), b"ok 1 3600\naccount 1 0 0 1\nplanet 1:1:1\n.\n".as_slice());
+    assert_eq!(rt; clock.count, 1);
     Ok(())
 }
 

@@ -1,7 +1,6 @@
 -- What the lists have that come of the maps of a draft.
 use Rattle.std.proofs.Common.{◌≡◌, Bool, true, List, [], ◌∷◌, ap, ◌∙◌, sym, subst}
-use Rattle.std.specs.Prelude.{map, AllPairs, Vec}
-use Rattle.std.specs.declared.alloc.Global.{Global}
+use Rattle.std.specs.Prelude.{map, AllPairs}
 use Rattle.std.specs.List.{AllByRecursion}
 use Rattle.std.specs.List.Sorted.{IsStrictlySortedBy}
 use Rattle.std.specs.Map.{keys_of, values_of}
@@ -14,7 +13,8 @@ use Rattle.base_ids.specs.declared.player.Player.{Player}
 use Rattle.planet_cell.specs.declared.planet.Planet.{Planet}
 use Rattle.founding.specs.DraftMaps.{place_order, planet_of, player_order}
 use Rattle.founding.specs.Drafts.{planet_before}
-use Rattle.founding.specs.Filing.{account_of, facts_of, facts_sketched, Facts}
+use Rattle.founding.specs.Filing.{account_facts, account_sketched, facts_of, facts_sketched, AccountFacts, Facts}
+use Rattle.founding.specs.declared.account_sketch.AccountSketch.{AccountSketch}
 use Rattle.founding.specs.declared.sketch.Sketch.{Sketch}
 use Rattle.founding.proofs.Keeping.{planets-rise}
 use Rattle.founding.proofs.Orders.{lower_number}
@@ -45,16 +45,25 @@ listed-planets-rise list entries placed sorted same =
     let facts = subst (Rises facts_before) (sym same) (rises-map facts_before facts_sketched (values_of entries) sketches) in
     rises-pairs (λ (a b : Planet). coord_before a.at b.at) list (rises-unmap facts_before facts_of list facts)
 
-above-all : (player : Player) (entries : List (Player × Vec Coord Global)) → AllByRecursion (λ y. player_order player y ≡ Less) (keys_of entries) → AllByRecursion (λ (a : Account). player_before player a.player ≡ true) (map account_of entries)
+above-all : (player : Player) (entries : List (Player × AccountSketch)) → AllByRecursion (λ y. player_order player y ≡ Less) (keys_of entries) → AllByRecursion (λ (e : Player × AccountSketch). player_before player e.0 ≡ true) entries
 above-all player [] above = tt
 above-all player (e ∷ es) (lower, others) = (sym (lower_number player.k e.0.k) ∙ ap is_lt lower, above-all player es others)
 
-accounts-rise : (entries : List (Player × Vec Coord Global)) → IsStrictlySortedBy player_order (keys_of entries) → Rises (λ (a b : Account). player_before a.player b.player) (map account_of entries)
+-- the players of a map rise
+players-rise : (entries : List (Player × AccountSketch)) → IsStrictlySortedBy player_order (keys_of entries) → Rises (λ (a b : Player × AccountSketch). player_before a.0 b.0) entries
 unfolding IsStrictlySortedBy
-accounts-rise [] sorted = tt
-accounts-rise (e ∷ es) (above, sorted) = (above-all e.0 es above, accounts-rise es sorted)
+players-rise [] sorted = tt
+players-rise (e ∷ es) (above, sorted) = (above-all e.0 es above, players-rise es sorted)
+
+pub listed-players-rise : (entries : List (Player × AccountSketch)) → IsStrictlySortedBy player_order (keys_of entries) → AllPairs (λ (a b : Player × AccountSketch). player_before a.0 b.0 ≡ true) entries
+listed-players-rise entries sorted = rises-pairs (λ (a b : Player × AccountSketch). player_before a.0 b.0) entries (players-rise entries sorted)
+
+account_before : AccountFacts → AccountFacts → Bool
+account_before a b = player_before a.player b.player
 
 -- so do the accounts
-pub listed-accounts-rise : (list : List Account) (entries : List (Player × Vec Coord Global)) → IsStrictlySortedBy player_order (keys_of entries) → list ≡ map account_of entries → AllPairs (λ (a b : Account). player_before a.player b.player ≡ true) list
+pub listed-accounts-rise : (list : List Account) (entries : List (Player × AccountSketch)) → IsStrictlySortedBy player_order (keys_of entries) → map account_facts list ≡ map account_sketched entries → AllPairs (λ (a b : Account). player_before a.player b.player ≡ true) list
+unfolding account_before
 listed-accounts-rise list entries sorted same =
-    subst (AllPairs (λ (a b : Account). player_before a.player b.player ≡ true)) (sym same) (rises-pairs (λ (a b : Account). player_before a.player b.player) (map account_of entries) (accounts-rise entries sorted))
+    let facts = subst (Rises account_before) (sym same) (rises-map account_before account_sketched entries (players-rise entries sorted)) in
+    rises-pairs (λ (a b : Account). player_before a.player b.player) list (rises-unmap account_before account_facts list facts)

@@ -106,7 +106,9 @@ nothing_long None line long new says = let short = says.spelled.short in omega (
 nothing_long (Some draft) line long new (inl says) = let short = says.spelled.short in omega (arith, long, short)
 nothing_long (Some draft) line long new (inr (inl says)) = let short = says.spelled.short in omega (arith, long, short)
 nothing_long (Some draft) line long new (inr (inr (inl says))) = let short = says.spelled.short in omega (arith, long, short)
-nothing_long (Some draft) line long new (inr (inr (inr says))) = let short = says.spelled.short in omega (arith, long, short)
+nothing_long (Some draft) line long new (inr (inr (inr (inl says)))) = let short = says.spelled.short in omega (arith, long, short)
+nothing_long (Some draft) line long new (inr (inr (inr (inr (inl says))))) = let short = says.spelled.short in omega (arith, long, short)
+nothing_long (Some draft) line long new (inr (inr (inr (inr (inr says))))) = let short = says.spelled.short in omega (arith, long, short)
 
 no_end : (said : Option Drafted) (line : List ℕ) → LONGEST_LINE < length line → IsEnd said line → ⊥
 no_end None line long ended = ended

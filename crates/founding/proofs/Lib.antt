@@ -8,6 +8,7 @@ pub mod Forms
 pub mod Once
 pub mod Rising
 pub mod Places
+pub mod Totals
 pub mod Keeping
 pub mod Judging
 pub mod Ending

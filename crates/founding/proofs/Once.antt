@@ -3,13 +3,14 @@ use Rattle.std.proofs.Common.{◌≡◌, ℕ, ◌+◌, ◌<◌, ◌≤◌, List,
 use Rattle.std.specs.Prelude.{codes, ⊤}
 use Rattle.base_text.specs.Parts.{words}
 use Rattle.tick_model.specs.Universe.{Universe}
-use Rattle.founding.specs.Drafts.{begun, raised_to, replaced, stocked_with, Adds, AddsNothing, DraftPlanet, Drafted, Grows, Raises, Stocks}
+use Rattle.founding.specs.Drafts.{begun, manned_with, raised_to, replaced, stocked_with, Adds, AddsNothing, DraftPlanet, Drafted, Grows, Mans, Raises, Stocks}
 use Rattle.founding.specs.Founded.{founded}
 use Rattle.founding.specs.Founding.{Founds, IsBadAt, IsBadNext, NeedsMemory, TakesMemory}
 use Rattle.founding.proofs.Hearing.{grows-more}
-use Rattle.founding.proofs.Forms.{level_alone, planet_alone, player_alone, stock_alone}
+use Rattle.founding.proofs.Forms.{level_alone, planet_alone, player_alone, stock_alone, technology_alone, units_alone}
 use Rattle.founding.specs.declared.named.NewLevel.{NewLevel}
 use Rattle.founding.specs.declared.named.NewStock.{NewStock}
+use Rattle.founding.specs.declared.named.NewUnits.{NewUnits}
 use Rattle.founding.proofs.Wording.{one_heading}
 
 stocks_once : (draft : Drafted) (stock : NewStock) (a b : Drafted) → Stocks draft stock a → Stocks draft stock b → a ≡ b
@@ -26,11 +27,20 @@ raises_once draft level a b (planet, may, is) (other, may_other, is_other) =
     let one : planet ≡ other = cc in
     is ∙ ap (λ (p : DraftPlanet). record draft { planets = replaced (raised_to level p) draft.planets }) one ∙ sym is_other
 
+mans_once : (draft : Drafted) (units : NewUnits) (a b : Drafted) → Mans draft units a → Mans draft units b → a ≡ b
+mans_once draft units a b (planet, may, is) (other, may_other, is_other) =
+    let first = may.stands in
+    let second = may_other.stands in
+    let one : planet ≡ other = cc in
+    is ∙ ap (λ (p : DraftPlanet). record draft { planets = replaced (manned_with units p) draft.planets }) one ∙ sym is_other
+
 names_once : (draft : Drafted) (line : List ℕ) (a b : Drafted) (p : Adds (Some draft) line a) → Adds (Some draft) line b → a ≡ b
 names_once draft line a b (inl says) other = let same = player_alone draft line says.value says.spelled.spells b other in says.makes.1 ∙ sym same.1
 names_once draft line a b (inr (inl says)) other = let same = planet_alone draft line says.value says.spelled.spells b other in says.makes.1 ∙ sym same.1
 names_once draft line a b (inr (inr (inl says))) other = stocks_once draft says.value a b says.makes (stock_alone draft line says.value says.spelled.spells b other)
-names_once draft line a b (inr (inr (inr says))) other = raises_once draft says.value a b says.makes (level_alone draft line says.value says.spelled.spells b other)
+names_once draft line a b (inr (inr (inr (inl says)))) other = raises_once draft says.value a b says.makes (level_alone draft line says.value says.spelled.spells b other)
+names_once draft line a b (inr (inr (inr (inr (inl says))))) other = let same = technology_alone draft line says.value says.spelled.spells b other in says.makes.1 ∙ sym same.1
+names_once draft line a b (inr (inr (inr (inr (inr says))))) other = mans_once draft says.value a b says.makes (units_alone draft line says.value says.spelled.spells b other)
 
 -- a line adds in one way
 adds_once : (said : Option Drafted) (line : List ℕ) (a b : Drafted) → Adds said line a → Adds said line b → a ≡ b
@@ -51,7 +61,9 @@ dot_nothing : (draft new : Drafted) → Adds (Some draft) (codes ".") new → �
 dot_nothing draft new (inl says) = let e = ap length says.spelled.spells in omega (arith, e)
 dot_nothing draft new (inr (inl says)) = let e = ap length says.spelled.spells in omega (arith, e)
 dot_nothing draft new (inr (inr (inl says))) = let e = ap length says.spelled.spells in omega (arith, e)
-dot_nothing draft new (inr (inr (inr says))) = let e = ap length says.spelled.spells in omega (arith, e)
+dot_nothing draft new (inr (inr (inr (inl says)))) = let e = ap length says.spelled.spells in omega (arith, e)
+dot_nothing draft new (inr (inr (inr (inr (inl says))))) = let e = ap length says.spelled.spells in omega (arith, e)
+dot_nothing draft new (inr (inr (inr (inr (inr says))))) = let e = ap length says.spelled.spells in omega (arith, e)
 
 dot_ends : (draft : Drafted) (script : List (List ℕ)) → Ends (Some draft) (codes "." ∷ script)
 unfolding Ends

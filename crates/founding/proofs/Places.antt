@@ -35,7 +35,7 @@ kept-at true planet kept = refl
 kept-at false planet kept = refl
 
 -- the places of a planet and of those behind it
-places-first : (player : Player) (planet : DraftPlanet) (planets : List DraftPlanet)
+pub places-first : (player : Player) (planet : DraftPlanet) (planets : List DraftPlanet)
     → places_of player (planet ∷ planets) ≡ cond (same_player planet.own.owner player) (planet.at ∷ places_of player planets) (places_of player planets)
 places-first player planet planets = kept-at (same_player planet.own.owner player) planet (filter (λ (p : DraftPlanet). same_player p.own.owner player) planets)
 

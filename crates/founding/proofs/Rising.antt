@@ -12,7 +12,7 @@ use Rattle.base_ids.specs.declared.cell_id.CellId.TheVariants.{Account, Planet}
 use Rattle.base_ids.specs.declared.coord.Coord.{Coord}
 use Rattle.base_ids.specs.declared.player.Player.{Player}
 use Rattle.tick_model.specs.Universe.{Universe}
-use Rattle.founding.specs.Drafts.{first_planet, planet_before, put, raised_to, replaced, stocked_with, Adds, DraftPlanet, Drafted, Grows}
+use Rattle.founding.specs.Drafts.{first_planet, manned_with, planet_before, put, raised_to, replaced, stocked_with, Adds, DraftPlanet, Drafted, Grows}
 use Rattle.founding.specs.Founded.{founded}
 use Rattle.founding.specs.Founding.{Founds}
 
@@ -113,8 +113,12 @@ adds-rising draft new line rising (inr (inl says)) =
 adds-rising draft new line rising (inr (inr (inl says))) =
     let planet = stocked_with says.value says.makes.0 in
     subst IsRising (sym says.makes.2) (record { players = rising.players; planets = rises-replaced planet draft.planets rising.planets })
-adds-rising draft new line rising (inr (inr (inr says))) =
+adds-rising draft new line rising (inr (inr (inr (inl says)))) =
     let planet = raised_to says.value says.makes.0 in
+    subst IsRising (sym says.makes.2) (record { players = rising.players; planets = rises-replaced planet draft.planets rising.planets })
+adds-rising draft new line rising (inr (inr (inr (inr (inl says))))) = subst IsRising (sym says.makes.1) (record { players = rising.players; planets = rising.planets })
+adds-rising draft new line rising (inr (inr (inr (inr (inr says))))) =
+    let planet = manned_with says.value says.makes.0 in
     subst IsRising (sym says.makes.2) (record { players = rising.players; planets = rises-replaced planet draft.planets rising.planets })
 
 grows-rising : (draft last : Drafted) (good : List (List ℕ)) → IsRising draft → Grows (Some draft) good (Some last) → IsRising last

@@ -1,33 +1,34 @@
 -- The base that comes of a draft is sound.
-use Rattle.std.proofs.Common.{◌≡◌, ◌≢◌, ℕ, ◌+◌, ◌≤◌, Bool, true, false, cond, List, [], ◌∷◌, get_or, Option, None, Some, inl, inr, sum, filter, arith, refl, ap, ◌∙◌, sym, subst}
-use Rattle.std.specs.Prelude.{is_some, map, All, AllPairs, Vec, ◌||◌}
-use Rattle.std.specs.declared.alloc.Global.{Global}
+use Rattle.std.proofs.Common.{◌≡◌, ℕ, ◌≤◌, Bool, true, false, cond, List, [], ◌∷◌, get_or, length, Option, None, Some, inl, inr, filter, arith, refl, ap, ◌∙◌, sym, subst}
+use Rattle.std.specs.Prelude.{is_some, map, sum_by, All, AllPairs, ◌||◌}
 use Rattle.std.specs.BTreeMap.{is_at}
 use Rattle.std.specs.List.{list_any, Contains}
 use Rattle.std.specs.Map.{keys_of, lookup}
 use Rattle.std.proofs.lemmas.Bool.Decides.{nat_tests}
 use Rattle.std.proofs.lemmas.List.Elements.{Contains-get_or}
-use Rattle.std.proofs.lemmas.List.Sums.{sum_by-cons}
+use Rattle.account_cell.specs.Account.{research_item, research_of}
 use Rattle.account_cell.specs.declared.account.Account.{Account}
-use Rattle.base_bytes.proofs.Among.{from-map, has-place, in-map, is-among, pairs-first, pairs-later}
+use Rattle.base_bytes.proofs.Among.{has-place, in-map, is-among, pairs-first, pairs-later}
 use Rattle.base_bytes.proofs.Owned.{player-one, player-same}
 use Rattle.base_bytes.specs.Base.{all_items}
-use Rattle.base_bytes.specs.Sound.{planets_owned, IsSound, RunsAfter}
+use Rattle.base_bytes.specs.Sound.{planets_owned, units_counted, IsSound, RunsAfter}
 use Rattle.base_bytes.specs.declared.base.Base.{Base}
 use Rattle.base_ids.specs.Cells.{same_player}
 use Rattle.base_ids.specs.Order.{coord_before, player_before}
-use Rattle.base_ids.specs.declared.coord.Coord.{Coord}
 use Rattle.base_ids.specs.declared.player.Player.{Player}
+use Rattle.catalog.specs.declared.classes.TheConstants.{UNIT_KINDS}
+use Rattle.planet_cell.specs.Planet.{batch_item_of, batches_of, buildings_of, item_of}
 use Rattle.planet_cell.specs.declared.planet.Planet.{Planet}
-use Rattle.tick_model.proofs.Lists.{from-filter, in-filter}
-use Rattle.tick_model.specs.Rules.{IsIn}
+use Rattle.tick_model.proofs.Lists.{in-filter}
+use Rattle.tick_model.specs.Rules.{IsIn, same_order}
 use Rattle.tick_model.specs.Universe.{Item}
-use Rattle.founding.specs.DraftMaps.{places_in, places_of, planet_of, player_order}
-use Rattle.founding.specs.Drafts.{DraftPlanet}
-use Rattle.founding.specs.Filing.{account_of, facts_of, facts_sketched, Facts}
+use Rattle.founding.specs.DraftMaps.{places_in, places_of, planet_of, player_order, units_in}
+use Rattle.founding.specs.Drafts.{units_of, DraftPlanet}
+use Rattle.founding.specs.Filing.{account_facts, account_sketched, facts_of, facts_sketched, AccountFacts, Facts}
+use Rattle.founding.specs.declared.account_sketch.AccountSketch.{AccountSketch}
 use Rattle.founding.specs.declared.sketch.Sketch.{Sketch}
 use Rattle.founding.proofs.Finding.{named_found}
-use Rattle.founding.proofs.Listed.{listed-items, listed-places, planet-comes}
+use Rattle.founding.proofs.Listed.{account-comes, listed-counts, listed-items, listed-places, planet-comes, told-alike}
 
 -- what holds of all that is among a list holds of all of it
 all-in : {A : Type 0} (P : A → Type 0) (xs : List A) → ((x : A) → IsIn x xs → P x) → All P xs
@@ -40,66 +41,69 @@ itself : (a : Player) → is_at (player_order a) a ≡ true
 itself a = grind (arith, nat_tests)
 
 -- each entry is found by its player
-looked_up : (entries : List (Player × Vec Coord Global)) (entry : Player × Vec Coord Global) → AllPairs (λ (a b : Account). player_before a.player b.player ≡ true) (map account_of entries) → IsIn entry entries
+looked_up : (entries : List (Player × AccountSketch)) (entry : Player × AccountSketch) → AllPairs (λ (a b : Player × AccountSketch). player_before a.0 b.0 ≡ true) entries → IsIn entry entries
     → lookup (is_at (player_order entry.0)) entries ≡ Some entry.1
 looked_up [] entry rises is = absurd is
 looked_up (e ∷ es) entry rises (inl same) =
-    ap (λ (x : Player × Vec Coord Global). lookup (is_at (player_order x.0)) (e ∷ es)) same ∙ ap (λ b. cond b (Some e.1) (lookup (is_at (player_order e.0)) es)) (itself e.0) ∙ ap (λ (x : Player × Vec Coord Global). Some x.1) (sym same)
+    ap (λ (x : Player × AccountSketch). lookup (is_at (player_order x.0)) (e ∷ es)) same ∙ ap (λ b. cond b (Some e.1) (lookup (is_at (player_order e.0)) es)) (itself e.0) ∙ ap (λ (x : Player × AccountSketch). Some x.1) (sym same)
 looked_up (e ∷ es) entry rises (inr later) =
-    let before = pairs-first (λ (a b : Account). player_before a.player b.player ≡ true) (account_of e) (account_of entry) (map account_of es) rises (in-map account_of entry es later) in
-    ap (λ b. cond b (Some e.1) (lookup (is_at (player_order entry.0)) es)) (apart_player e.0 entry.0 before) ∙ looked_up es entry (pairs-later (λ (a b : Account). player_before a.player b.player ≡ true) (account_of e) (map account_of es) rises) later
+    let before = pairs-first (λ (a b : Player × AccountSketch). player_before a.0 b.0 ≡ true) e entry es rises later in
+    ap (λ b. cond b (Some e.1) (lookup (is_at (player_order entry.0)) es)) (apart_player e.0 entry.0 before) ∙ looked_up es entry (pairs-later (λ (a b : Player × AccountSketch). player_before a.0 b.0 ≡ true) e es rises) later
 
 -- What a base is made of: the entries of a map of players, the planets that lines have made, and the lists that come of them.
-pub record Comes (entries : List (Player × Vec Coord Global)) (sketches : List Sketch) (accounts : List Account) (planets : List Planet) : Type 0 where
-  pub accounts_are : accounts ≡ map account_of entries
+pub record Comes (entries : List (Player × AccountSketch)) (sketches : List Sketch) (accounts : List Account) (planets : List Planet) : Type 0 where
+  pub accounts_are : map account_facts accounts ≡ map account_sketched entries
   pub planets_are : map facts_of planets ≡ map facts_sketched sketches
+  pub ordered : AllPairs (λ (a b : Player × AccountSketch). player_before a.0 b.0 ≡ true) entries
   pub rises : AllPairs (λ (a b : Account). player_before a.player b.player ≡ true) accounts
   pub kept : (player : Player) → places_in (lookup (is_at (player_order player)) entries) ≡ places_of player (map planet_of sketches)
+  pub counts : (player : Player) → units_in (lookup (is_at (player_order player)) entries) ≡ units_of player (map planet_of sketches)
 
-listed-each : (entries : List (Player × Vec Coord Global)) (sketches : List Sketch) (accounts : List Account) (planets : List Planet) → Comes entries sketches accounts planets
-    → All (λ account. account.planets.items ≡ map (λ planet. planet.at) (planets_owned account.player planets)) accounts
-listed-each entries sketches accounts planets comes =
-    let rises = subst (AllPairs (λ (a b : Account). player_before a.player b.player ≡ true)) comes.accounts_are comes.rises in
-    all-in (λ account. account.planets.items ≡ map (λ planet. planet.at) (planets_owned account.player planets)) accounts (λ account is.
-    let from = from-map account_of account entries (subst (IsIn account) comes.accounts_are is) in
-    let entry = from.0 in
-    let found = looked_up entries entry rises from.1 in
-    subst (λ (a : Account). a.planets.items ≡ map (λ (p : Planet). p.at) (planets_owned a.player planets)) (sym from.2)
-    (ap places_in (sym found) ∙ comes.kept entry.0 ∙ listed-places entry.0 planets sketches comes.planets_are))
+module _ (entries : List (Player × AccountSketch)) (sketches : List Sketch) (accounts : List Account) (planets : List Planet) (comes : Comes entries sketches accounts planets) where
+  -- what holds of each account that comes of an entry holds of each account
+  each-account : (P : AccountFacts → Type 0) → ((entry : Player × AccountSketch) → IsIn entry entries → P (account_sketched entry)) → All (λ account. P (account_facts account)) accounts
+  each-account P each =
+      all-in (λ account. P (account_facts account)) accounts (λ account is.
+      let from = account-comes accounts entries account comes.accounts_are is in
+      subst P (sym from.2) (each from.0 from.1))
 
-no_units : (planets : List Planet) → ((planet : Planet) → IsIn planet planets → sum planet.units ≡ 0) → sum (map (λ (p : Planet). sum p.units) planets) ≡ 0
-no_units [] none = refl
-no_units (p ∷ ps) none =
-    let rest = no_units ps (λ other is. none other (inr is)) in
-    sum_by-cons (λ (n : ℕ). n) (sum p.units) (map (λ (x : Planet). sum x.units) ps) ∙ (λ i. none p (inl refl) i + rest i)
+  -- and so for planets
+  each-planet : (P : Facts → Type 0) → ((sketch : Sketch) → IsIn sketch sketches → P (facts_sketched sketch)) → All (λ planet. P (facts_of planet)) planets
+  each-planet P each =
+      all-in (λ planet. P (facts_of planet)) planets (λ planet is.
+      let from = planet-comes planets sketches planet comes.planets_are is in
+      subst P (sym from.2) (each from.0 from.1))
 
-unit-less : (entries : List (Player × Vec Coord Global)) (sketches : List Sketch) (accounts : List Account) (planets : List Planet) → Comes entries sketches accounts planets → (planet : Planet) → IsIn planet planets → sum planet.units ≡ 0
-unit-less entries sketches accounts planets comes planet is = let from = planet-comes planets sketches planet comes.planets_are is in ap (λ (f : Facts). sum f.own.units) from.2
+  listed-each : All (λ account. account.planets.items ≡ map (λ planet. planet.at) (planets_owned account.player planets)) accounts
+  listed-each =
+      each-account (λ facts. facts.planets ≡ map (λ (p : Planet). p.at) (planets_owned facts.player planets)) (λ entry is.
+      ap places_in (sym (looked_up entries entry comes.ordered is)) ∙ comes.kept entry.0 ∙ listed-places entry.0 planets sketches comes.planets_are)
 
-counted-each : (entries : List (Player × Vec Coord Global)) (sketches : List Sketch) (accounts : List Account) (planets : List Planet) → Comes entries sketches accounts planets
-    → All (λ account. account.units ≡ sum (map (λ planet. sum planet.units) (planets_owned account.player planets))) accounts
-counted-each entries sketches accounts planets comes =
-    all-in (λ account. account.units ≡ sum (map (λ planet. sum planet.units) (planets_owned account.player planets))) accounts (λ account is.
-    let from = from-map account_of account entries (subst (IsIn account) comes.accounts_are is) in
-    let none = no_units (planets_owned account.player planets) (λ planet has. unit-less entries sketches accounts planets comes planet (from-filter (λ (p : Planet). same_player p.owner account.player) planet planets has).0) in
-    ap (λ (a : Account). a.units) from.2 ∙ sym none)
+  counted-each : All (λ account. account.units ≡ sum_by units_counted (planets_owned account.player planets)) accounts
+  counted-each =
+      each-account (λ facts. facts.units ≡ sum_by units_counted (planets_owned facts.player planets)) (λ entry is.
+      ap units_in (sym (looked_up entries entry comes.ordered is)) ∙ comes.counts entry.0 ∙ listed-counts entry.0 planets sketches comes.planets_are)
 
-running-each : (entries : List (Player × Vec Coord Global)) (sketches : List Sketch) (accounts : List Account) (planets : List Planet) (moment : ℕ) → Comes entries sketches accounts planets
-    → All (λ planet. RunsAfter moment planet.buildings.items) planets
-running-each entries sketches accounts planets moment comes =
-    all-in (λ planet. RunsAfter moment planet.buildings.items) planets (λ planet is.
-    let from = planet-comes planets sketches planet comes.planets_are is in
-    subst (RunsAfter moment) (sym (ap (λ (f : Facts). f.queue) from.2)) tt)
+  home-each : All (λ account. All (λ item. Contains account.planets.items item.at) account.research.items) accounts
+  home-each = each-account (λ facts. All (λ item. Contains facts.planets item.at) facts.queue) (λ entry is k d below. absurd (omega (arith, below)))
 
-drawn-each : (entries : List (Player × Vec Coord Global)) (sketches : List Sketch) (accounts : List Account) (planets : List Planet) (number : ℕ) → Comes entries sketches accounts planets
-    → All (λ item. (1 ≤ item.number) × (item.number ≤ number)) (all_items planets)
-drawn-each entries sketches accounts planets number comes =
-    subst (All (λ (item : Item). (1 ≤ item.number) × (item.number ≤ number))) (sym (listed-items planets sketches comes.planets_are)) (λ k d below. absurd (omega (arith, below)))
+  built-each : (moment : ℕ) → All (λ planet. RunsAfter moment (buildings_of planet)) planets
+  built-each moment = each-planet (λ facts. RunsAfter moment (map (item_of facts.at) facts.queue)) (λ sketch is. tt)
 
-distinct-each : (entries : List (Player × Vec Coord Global)) (sketches : List Sketch) (accounts : List Account) (planets : List Planet) → Comes entries sketches accounts planets
-    → AllPairs (λ first second. first.number ≢ second.number) (all_items planets)
-distinct-each entries sketches accounts planets comes =
-    subst (AllPairs (λ (first second : Item). first.number ≢ second.number)) (sym (listed-items planets sketches comes.planets_are)) (λ i j d first below. absurd (omega (arith, below)))
+  manned-each : (moment : ℕ) → All (λ planet. RunsAfter moment (batches_of planet)) planets
+  manned-each moment = each-planet (λ facts. RunsAfter moment (map (batch_item_of facts.at) facts.yard)) (λ sketch is. tt)
+
+  researched-each : (moment : ℕ) → All (λ account. RunsAfter moment (research_of account)) accounts
+  researched-each moment = each-account (λ facts. RunsAfter moment (map (research_item facts.player) facts.queue)) (λ entry is. tt)
+
+  no-items : all_items accounts planets ≡ []
+  no-items = listed-items accounts entries planets sketches comes.accounts_are comes.planets_are
+
+  drawn-each : (number : ℕ) → All (λ item. (1 ≤ item.number) × (item.number ≤ number)) (all_items accounts planets)
+  drawn-each number = subst (All (λ (item : Item). (1 ≤ item.number) × (item.number ≤ number))) (sym no-items) (λ k d below. absurd (omega (arith, below)))
+
+  distinct-each : AllPairs (λ first second. same_order first second ≡ false) (all_items accounts planets)
+  distinct-each = subst (AllPairs (λ (first second : Item). same_order first second ≡ false)) (sym no-items) (λ i j d first below. absurd (omega (arith, below)))
 
 named-in : (player : Player) (players : List Player) → list_any (λ (other : Player). same_player other player) players ≡ true → IsIn player players
 named-in player [] named = absurd (cc)
@@ -117,39 +121,36 @@ place-held sketch sketches is none =
     let place = in-map (λ (p : DraftPlanet). p.at) (planet_of sketch) (filter (λ (p : DraftPlanet). same_player p.own.owner sketch.owner) (map planet_of sketches)) owned in
     subst (IsIn sketch.at) none place
 
-owner-named : (entries : List (Player × Vec Coord Global)) (sketches : List Sketch) (sketch : Sketch) (found : Option (Vec Coord Global)) → found ≡ lookup (is_at (player_order sketch.owner)) entries → places_in found ≡ places_of sketch.owner (map planet_of sketches) → IsIn sketch sketches
+owner-named : (entries : List (Player × AccountSketch)) (sketches : List Sketch) (sketch : Sketch) (found : Option (AccountSketch)) → found ≡ lookup (is_at (player_order sketch.owner)) entries → places_in found ≡ places_of sketch.owner (map planet_of sketches) → IsIn sketch sketches
     → IsIn sketch.owner (keys_of entries)
 owner-named entries sketches sketch None is listed has = absurd (place-held sketch sketches has (sym listed))
-owner-named entries sketches sketch (Some places) is listed has = named-in sketch.owner (keys_of entries) (named_found sketch.owner entries ∙ ap is_some (sym is))
+owner-named entries sketches sketch (Some account) is listed has = named-in sketch.owner (keys_of entries) (named_found sketch.owner entries ∙ ap is_some (sym is))
 
-players_listed : (entries : List (Player × Vec Coord Global)) → map (λ (a : Account). a.player) (map account_of entries) ≡ keys_of entries
-players_listed [] = refl
-players_listed (e ∷ es) = ap (λ l. e.0 ∷ l) (players_listed es)
-
-owned-each : (entries : List (Player × Vec Coord Global)) (sketches : List Sketch) (accounts : List Account) (planets : List Planet) → Comes entries sketches accounts planets
-    → All (λ planet. Contains (map (λ account. account.player) accounts) planet.owner) planets
-owned-each entries sketches accounts planets comes =
-    let names = ap (map (λ (a : Account). a.player)) comes.accounts_are ∙ players_listed entries in
-    all-in (λ planet. Contains (map (λ account. account.player) accounts) planet.owner) planets (λ planet is.
-    let from = planet-comes planets sketches planet comes.planets_are is in
-    let sketch = from.0 in
-    let owner = ap (λ (f : Facts). f.own.owner) from.2 in
-    let named = owner-named entries sketches sketch (lookup (is_at (player_order sketch.owner)) entries) refl (comes.kept sketch.owner) from.1 in
-    subst (λ (ks : List Player). Contains ks planet.owner) (sym names) (subst (Contains (keys_of entries)) (sym owner) (has-place sketch.owner (keys_of entries) named)))
+keys-listed : (entries : List (Player × AccountSketch)) → map (λ (e : Player × AccountSketch). e.0) entries ≡ keys_of entries
+keys-listed [] = refl
+keys-listed (e ∷ es) = ap (λ l. e.0 ∷ l) (keys-listed es)
 
 -- the base that comes of a draft is sound
-pub comes-sound : (base : Base) (entries : List (Player × Vec Coord Global)) (sketches : List Sketch) → Comes entries sketches base.accounts.items base.planets.items
+pub comes-sound : (base : Base) (entries : List (Player × AccountSketch)) (sketches : List Sketch) → Comes entries sketches base.accounts.items base.planets.items
     → AllPairs (λ (a b : Planet). coord_before a.at b.at ≡ true) base.planets.items → IsSound base
 comes-sound base entries sketches comes rises =
     let accounts = base.accounts.items in
     let planets = base.planets.items in
+    let names = told-alike (λ (f : AccountFacts). f.player) accounts entries comes.accounts_are ∙ keys-listed entries in
     record {
       accounts_rise = comes.rises;
       planets_rise = rises;
-      owned = owned-each entries sketches accounts planets comes;
+      owned =
+          each-planet entries sketches accounts planets comes (λ facts. Contains (map (λ (a : Account). a.player) accounts) facts.own.owner) (λ sketch is.
+          let named = owner-named entries sketches sketch (lookup (is_at (player_order sketch.owner)) entries) refl (comes.kept sketch.owner) is in
+          subst (λ (ks : List Player). Contains ks sketch.owner) (sym names) (has-place sketch.owner (keys_of entries) named));
+      kinds = each-planet entries sketches accounts planets comes (λ facts. length facts.own.units ≡ length UNIT_KINDS) (λ sketch is. sketch.kinds);
       listed = listed-each entries sketches accounts planets comes;
       counted = counted-each entries sketches accounts planets comes;
-      running = running-each entries sketches accounts planets base.moment comes;
-      drawn = drawn-each entries sketches accounts planets base.number comes;
+      at_home = home-each entries sketches accounts planets comes;
+      built = built-each entries sketches accounts planets comes base.moment;
+      manned = manned-each entries sketches accounts planets comes base.moment;
+      researched = researched-each entries sketches accounts planets comes base.moment;
+      drawn = drawn-each entries sketches accounts planets comes base.number;
       distinct = distinct-each entries sketches accounts planets comes;
     }

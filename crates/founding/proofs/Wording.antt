@@ -1,6 +1,6 @@
 -- Lines of words: each form has its own words, and the words of a form have one value.
 use Rattle.std.proofs.Common.{◌≡◌, ℕ, ◌<◌, ◌≤◌, ◌^◌, pos, negsuc, ◌≤ℤ◌, List, [], ◌∷◌, length, refl, ap, ◌∙◌, sym, subst, arith, rules, Option, Some, None}
-use Rattle.std.specs.Prelude.{codes, MatchOption}
+use Rattle.std.specs.Prelude.{codes, Bool, true, false, if◌then◌else◌, MatchOption}
 use Rattle.std.specs.Coded.{le_prop}
 use Rattle.std.specs.Fmt.{decimal, signed_decimal}
 use Rattle.std.proofs.lemmas.Fmt.{decimal_injective}
@@ -15,21 +15,28 @@ use Rattle.base_ids.specs.Text.{coord_text, player_text}
 use Rattle.base_ids.specs.declared.coord.Coord.{Coord}
 use Rattle.base_ids.specs.declared.player.Player.{Player}
 use Rattle.base_bytes.specs.declared.base.TheConstants.{MOST_REQUESTS}
-use Rattle.catalog.proofs.Values.{amounts_is, building_is}
+use Rattle.catalog.proofs.Values.{amounts_is, building_is, technology_is, unit_is}
 use Rattle.catalog.proofs.Words.{word_once}
 use Rattle.catalog.specs.declared.classes.Building.{Building}
+use Rattle.catalog.specs.declared.classes.Technology.{Technology}
+use Rattle.catalog.specs.declared.classes.Unit.{Unit as UnitKind}
+use Rattle.catalog.specs.declared.ships.TheConstants.{UNITS}
 use Rattle.catalog.specs.Kinds.{kind_word}
 use Rattle.catalog.specs.Levels.{level_cap_of}
 use Rattle.catalog.specs.declared.amounts.TheConstants.{CAP}
 use Rattle.catalog.specs.declared.kind.Kind.{Kind}
 use Rattle.ports.specs.declared.clock.TheConstants.{LATEST}
 use Rattle.tick_model.specs.declared.rules.Rules.{Rules}
+use Rattle.founding.specs.Bounds.{most_units}
 use Rattle.founding.specs.Drafts.{first_planet}
-use Rattle.founding.specs.Lines.{heading_words, level_words, planet_words, player_words, stock_words}
+use Rattle.founding.specs.Lines.{heading_words, level_words, planet_words, player_words, stock_words, technology_words, units_words}
 use Rattle.founding.specs.declared.heading.Heading.{Heading}
 use Rattle.founding.specs.declared.named.NewLevel.{NewLevel}
 use Rattle.founding.specs.declared.named.NewPlanet.{NewPlanet}
 use Rattle.founding.specs.declared.named.NewStock.{NewStock}
+use Rattle.founding.specs.declared.named.NewTechnology.{NewTechnology}
+use Rattle.founding.specs.declared.named.NewUnits.{NewUnits}
+use Rattle.tick_model.specs.Refusals.{is_dome}
 
 -- a line whose fourth word is followed by another has no four words
 pub more_than_four : (a b c d p q r s rest : List ℕ) → p ∷ q ∷ r ∷ s ∷ words rest ≡ a ∷ b ∷ c ∷ d ∷ [] → ⊥
@@ -160,6 +167,55 @@ one_level line a b first second =
     let small_b : b.level < 2 ^ 64 = omega (arith, b.level_to, cap_b) in
     level_is a b (coord_once a.at b.at place) (building_is a.building b.building (word_once a.building.kind b.building.kind word)) (decimal_injective a.level b.level small_a small_b text)
 
+technology_said : (a b : NewTechnology) → a.player ≡ b.player → a.technology ≡ b.technology → a.level ≡ b.level → a ≡ b
+technology_said a b player technology level =
+    let at_technology = λ (k : Technology). (to : a.level ≤ level_cap_of k.kind) → a ≡ record a { technology = k; level_to = to } in
+    let first = subst at_technology technology (λ to i. record a { level_to = le_prop a.level_to to i }) in
+    let at_level = λ (n : ℕ). (from : 1 ≤ n) (to : n ≤ level_cap_of b.technology.kind) → a ≡ record a { technology = b.technology; level = n; level_from = from; level_to = to } in
+    let second = subst at_level level (λ from to. first to ∙ (λ i. record a { technology = b.technology; level_from = le_prop a.level_from from i; level_to = to })) b.level_from b.level_to in
+    second ∙ (λ i. record b { player = player i })
+
+-- the words of a line say one level of a technology
+pub one_technology : (line : List (List ℕ)) (a b : NewTechnology) → line ≡ technology_words a → line ≡ technology_words b → a ≡ b
+one_technology line a b first second =
+    let same : technology_words a ≡ technology_words b = sym first ∙ second in
+    let name : player_text a.player ≡ player_text b.player = cc in
+    let word : kind_word a.technology.kind ≡ kind_word b.technology.kind = cc in
+    let text : decimal a.level ≡ decimal b.level = cc in
+    let cap_a = cap_small a.technology.kind in
+    let cap_b = cap_small b.technology.kind in
+    let small_a : a.level < 2 ^ 64 = omega (arith, a.level_to, cap_a) in
+    let small_b : b.level < 2 ^ 64 = omega (arith, b.level_to, cap_b) in
+    technology_said a b (player_once a.player b.player name) (technology_is a.technology b.technology (word_once a.technology.kind b.technology.kind word)) (decimal_injective a.level b.level small_a small_b text)
+
+few_units : (dome : Bool) → (if dome then 1 else UNITS) < 2 ^ 64
+few_units true = omega arith
+few_units false = omega arith
+
+units_small : (kind : Kind) → most_units kind < 2 ^ 64
+units_small kind = few_units (is_dome kind)
+
+units_said : (a b : NewUnits) → a.at ≡ b.at → a.unit ≡ b.unit → a.count ≡ b.count → a ≡ b
+units_said a b at unit count =
+    let at_unit = λ (k : UnitKind). (to : a.count ≤ most_units k.kind) → a ≡ record a { unit = k; count_to = to } in
+    let first = subst at_unit unit (λ to i. record a { count_to = le_prop a.count_to to i }) in
+    let at_count = λ (n : ℕ). (from : 1 ≤ n) (to : n ≤ most_units b.unit.kind) → a ≡ record a { unit = b.unit; count = n; count_from = from; count_to = to } in
+    let second = subst at_count count (λ from to. first to ∙ (λ i. record a { unit = b.unit; count_from = le_prop a.count_from from i; count_to = to })) b.count_from b.count_to in
+    second ∙ (λ i. record b { at = at i })
+
+-- the words of a line say the units of one kind
+pub one_units : (line : List (List ℕ)) (a b : NewUnits) → line ≡ units_words a → line ≡ units_words b → a ≡ b
+one_units line a b first second =
+    let same : units_words a ≡ units_words b = sym first ∙ second in
+    let place : coord_text a.at ≡ coord_text b.at = cc in
+    let word : kind_word a.unit.kind ≡ kind_word b.unit.kind = cc in
+    let text : decimal a.count ≡ decimal b.count = cc in
+    let most_a = units_small a.unit.kind in
+    let most_b = units_small b.unit.kind in
+    let small_a : a.count < 2 ^ 64 = omega (arith, a.count_to, most_a) in
+    let small_b : b.count < 2 ^ 64 = omega (arith, b.count_to, most_b) in
+    units_said a b (coord_once a.at b.at place) (unit_is a.unit b.unit (word_once a.unit.kind b.unit.kind word)) (decimal_injective a.count b.count small_a small_b text)
+
 -- how long the first word of a line is
 first_length : List (List ℕ) → ℕ
 first_length [] = 0
@@ -184,6 +240,50 @@ no_planet_level line planet level first second = let both = ap length (sym first
 
 pub no_stock_level : (line : List (List ℕ)) (stock : NewStock) (level : NewLevel) → line ≡ stock_words stock → line ≡ level_words level → ⊥
 no_stock_level line stock level first second = let both = ap length (sym first ∙ second) in omega (arith, both)
+
+-- the first letter of a line
+first_code : List (List ℕ) → ℕ
+first_code [] = 0
+first_code ([] ∷ later) = 0
+first_code ((code ∷ word) ∷ later) = code
+
+-- lines of other first letters have another form
+module _ (line : List (List ℕ)) where
+  pub no_player_technology : (player : Player) (new : NewTechnology) → line ≡ player_words player → line ≡ technology_words new → ⊥
+  unfolding first_code
+  no_player_technology player new first second = let both = ap first_code (sym first ∙ second) in omega (arith, both)
+
+  pub no_planet_technology : (planet : NewPlanet) (new : NewTechnology) → line ≡ planet_words planet → line ≡ technology_words new → ⊥
+  unfolding first_code
+  no_planet_technology planet new first second = let both = ap first_code (sym first ∙ second) in omega (arith, both)
+
+  pub no_stock_technology : (stock : NewStock) (new : NewTechnology) → line ≡ stock_words stock → line ≡ technology_words new → ⊥
+  unfolding first_code
+  no_stock_technology stock new first second = let both = ap first_code (sym first ∙ second) in omega (arith, both)
+
+  pub no_level_technology : (level : NewLevel) (new : NewTechnology) → line ≡ level_words level → line ≡ technology_words new → ⊥
+  unfolding first_code
+  no_level_technology level new first second = let both = ap first_code (sym first ∙ second) in omega (arith, both)
+
+  pub no_player_units : (player : Player) (new : NewUnits) → line ≡ player_words player → line ≡ units_words new → ⊥
+  unfolding first_code
+  no_player_units player new first second = let both = ap first_code (sym first ∙ second) in omega (arith, both)
+
+  pub no_planet_units : (planet : NewPlanet) (new : NewUnits) → line ≡ planet_words planet → line ≡ units_words new → ⊥
+  unfolding first_code
+  no_planet_units planet new first second = let both = ap first_code (sym first ∙ second) in omega (arith, both)
+
+  pub no_stock_units : (stock : NewStock) (new : NewUnits) → line ≡ stock_words stock → line ≡ units_words new → ⊥
+  unfolding first_code
+  no_stock_units stock new first second = let both = ap first_code (sym first ∙ second) in omega (arith, both)
+
+  pub no_level_units : (level : NewLevel) (new : NewUnits) → line ≡ level_words level → line ≡ units_words new → ⊥
+  unfolding first_code
+  no_level_units level new first second = let both = ap first_code (sym first ∙ second) in omega (arith, both)
+
+  pub no_technology_units : (technology : NewTechnology) (new : NewUnits) → line ≡ technology_words technology → line ≡ units_words new → ⊥
+  unfolding first_code
+  no_technology_units technology new first second = let both = ap first_code (sym first ∙ second) in omega (arith, both)
 
 pub rules_is : (a b : Rules) → a.seed ≡ b.seed → a.speed ≡ b.speed → a ≡ b
 rules_is a b seed speed =

@@ -1,42 +1,49 @@
 -- What the lines of a founding text say one after another, each judged by those before it. Rules: docs/RULES.md,
 -- "The founding", and docs/PROTOCOL.md, "The founding text".
-use Rattle.std.specs.Prelude.{◌≡◌, ◌<◌, ◌≤◌, ◌+◌, ◌*◌, ℕ, List, [], ◌∷◌, Bool, true, false, if◌then◌else◌, length, count_by, find, slice_set, Option, None, Some, ◌⊎◌}
+use Rattle.std.specs.Prelude.{◌≡◌, ◌<◌, ◌≤◌, ◌+◌, ◌*◌, ℕ, List, [], ◌∷◌, Bool, true, false, if◌then◌else◌, length, count_by, find, slice_set, sum, sum_by, Option, None, Some, ◌⊎◌}
 use Rattle.std.specs.List.{list_any}
 use Rattle.base_ids.specs.Cells.{same_coord, same_player}
 use Rattle.base_ids.specs.Order.{coord_before, player_before}
 use Rattle.base_ids.specs.declared.coord.Coord.{Coord}
 use Rattle.base_ids.specs.declared.player.Player.{Player}
 use Rattle.catalog.specs.Kinds.{place_in}
-use Rattle.catalog.specs.declared.classes.TheConstants.{BUILDINGS}
+use Rattle.catalog.specs.Technologies.{level_in}
+use Rattle.catalog.specs.declared.classes.TheConstants.{BUILDINGS, TECHNOLOGIES, UNIT_KINDS}
+use Rattle.catalog.specs.declared.ships.TheConstants.{UNITS}
 use Rattle.rates.specs.declared.stock.TheConstants.{GRAINS}
 use Rattle.tick_model.specs.Production.{level_of}
 use Rattle.tick_model.specs.Refusals.{used_fields}
-use Rattle.tick_model.specs.Universe.{PlanetFields}
-use Rattle.founding.specs.Firsts.{first_fields}
-use Rattle.founding.specs.Lines.{heading_words, player_words, planet_words, stock_words, level_words, IsLineOf}
+use Rattle.tick_model.specs.Universe.{AccountFields, PlanetFields}
+use Rattle.tick_model.specs.Yards.{count_of}
+use Rattle.founding.specs.Firsts.{first_account, first_fields}
+use Rattle.founding.specs.Lines.{heading_words, player_words, planet_words, stock_words, level_words, technology_words, units_words, IsLineOf}
 use Rattle.founding.specs.declared.draft.TheConstants.{MOST_OWNED, MOST_PLANETS, MOST_PLAYERS}
 use Rattle.founding.specs.declared.heading.Heading.{Heading}
 use Rattle.founding.specs.declared.named.NewLevel.{NewLevel}
 use Rattle.founding.specs.declared.named.NewPlanet.{NewPlanet}
 use Rattle.founding.specs.declared.named.NewStock.{NewStock}
+use Rattle.founding.specs.declared.named.NewTechnology.{NewTechnology}
+use Rattle.founding.specs.declared.named.NewUnits.{NewUnits}
 
 -- A planet as lines have made it so far: where it stands, what it has of its own, and whether a line has said its stock. A
--- building whose level no line has said has level 0.
+-- building whose level no line has said has level 0, and of units that no line has said there are none.
 pub record DraftPlanet : Type 0 where
   pub at : Coord
   pub own : PlanetFields
   pub stocked : Bool
 
--- what lines have said so far: the rules, capacity and moment of the heading, the players in the order of their
--- numbers, and the planets in the order of their coordinates
+-- What lines have said so far: the rules, capacity and moment of the heading, the players in the order of their
+-- numbers, what the account of each player has of its own, and the planets in the order of their coordinates. A technology
+-- whose level no line has said has level 0.
 pub record Drafted : Type 0 where
   pub heading : Heading
   pub players : List Player
+  pub owns : Player → AccountFields
   pub planets : List DraftPlanet
 
 -- the heading alone
 abbrev pub begun : Heading → Drafted
-begun heading = record { heading = heading; players = []; planets = [] }
+begun heading = record { heading = heading; players = []; owns = λ player. first_account; planets = [] }
 
 -- a list with one more element, which stands just before the first one that it comes before
 abbrev pub put : {A : Type 0} → (A → A → Bool) → A → List A → List A
@@ -62,6 +69,14 @@ is_taken at planets = list_any (λ planet. same_coord planet.at at) planets
 -- how many of the planets the player has
 abbrev pub planets_of : Player → List DraftPlanet → ℕ
 planets_of player planets = count_by (λ planet. same_player planet.own.owner player) planets
+
+-- how many units a planet adds to those of a player
+abbrev pub units_by : Player → DraftPlanet → ℕ
+units_by player planet = if same_player planet.own.owner player then sum planet.own.units else 0
+
+-- how many units the planets of a player have
+abbrev pub units_of : Player → List DraftPlanet → ℕ
+units_of player planets = sum_by (units_by player) planets
 
 -- the planet that stands where this one does gives way to it
 abbrev pub replaced : DraftPlanet → List DraftPlanet → List DraftPlanet
@@ -90,6 +105,19 @@ raised_to level planet =
       own = record planet.own { levels = slice_set planet.own.levels (place_in BUILDINGS level.building.kind) level.level };
     }
 
+-- a planet with the units of a kind that a line says
+abbrev pub manned_with : NewUnits → DraftPlanet → DraftPlanet
+manned_with new planet =
+    record planet { own = record planet.own { units = slice_set planet.own.units (place_in UNIT_KINDS new.unit.kind) new.count } }
+
+-- an account with the level of a technology that a line says
+abbrev pub learned_to : NewTechnology → AccountFields → AccountFields
+learned_to new own = record { techs = record { n = slice_set own.techs.n (place_in TECHNOLOGIES new.technology.kind) new.level } }
+
+-- the accounts, of which that of one player has the level of a technology that a line says
+abbrev pub taught : NewTechnology → (Player → AccountFields) → Player → AccountFields
+taught new owns player = if same_player new.player player then learned_to new (owns player) else owns player
+
 -- A player may be named who isn't named yet, if there is room for one more.
 pub record MayName (draft : Drafted) (player : Player) : Type 0 where
   pub unnamed : is_named player draft.players ≡ false
@@ -114,6 +142,18 @@ pub record MayRaise (draft : Drafted) (level : NewLevel) (planet : DraftPlanet) 
   pub unsaid : level_of planet.own level.building.kind ≡ 0
   pub room : used_fields planet.own + level.level ≤ planet.own.fields
 
+-- The level of a technology of a player may be said once, if the player is named.
+pub record MayTeach (draft : Drafted) (new : NewTechnology) : Type 0 where
+  pub named : is_named new.player draft.players ≡ true
+  pub unsaid : level_in (draft.owns new.player).techs.n new.technology.kind ≡ 0
+
+-- The units of a kind on a planet may be said once, if the planet is named and all units of its owner are then no more than an
+-- account may have.
+pub record MayMan (draft : Drafted) (new : NewUnits) (planet : DraftPlanet) : Type 0 where
+  pub stands : planet_at new.at draft.planets ≡ Some planet
+  pub unsaid : count_of planet.own new.unit.kind ≡ 0
+  pub room : units_of planet.own.owner draft.planets + new.count ≤ UNITS
+
 -- the player is named
 abbrev pub Names : Drafted → Player → Drafted → Type 0
 Names draft player new = MayName draft player × (new ≡ record draft { players = put player_before player draft.players })
@@ -131,6 +171,15 @@ Stocks draft stock new =
 abbrev pub Raises : Drafted → NewLevel → Drafted → Type 0
 Raises draft level new =
     (planet : DraftPlanet) × MayRaise draft level planet × (new ≡ record draft { planets = replaced (raised_to level planet) draft.planets })
+
+-- the player's account has the level
+abbrev pub Teaches : Drafted → NewTechnology → Drafted → Type 0
+Teaches draft new after = MayTeach draft new × (after ≡ record draft { owns = taught new draft.owns })
+
+-- the planet that stands there has the units
+abbrev pub Mans : Drafted → NewUnits → Drafted → Type 0
+Mans draft new after =
+    (planet : DraftPlanet) × MayMan draft new planet × (after ≡ record draft { planets = replaced (manned_with new planet) draft.planets })
 
 -- the universe begins
 abbrev pub Begins : Heading → Drafted → Type 0
@@ -151,6 +200,8 @@ Adds (Some draft) line new =
     ⊎ Says planet_words (Gives draft) line new
     ⊎ Says stock_words (Stocks draft) line new
     ⊎ Says level_words (Raises draft) line new
+    ⊎ Says technology_words (Teaches draft) line new
+    ⊎ Says units_words (Mans draft) line new
 
 -- the line adds nothing, whatever would come of it
 abbrev pub AddsNothing : Option Drafted → List ℕ → Type 0

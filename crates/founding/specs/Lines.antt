@@ -10,6 +10,8 @@ use Rattle.founding.specs.declared.heading.Heading.{Heading}
 use Rattle.founding.specs.declared.named.NewLevel.{NewLevel}
 use Rattle.founding.specs.declared.named.NewPlanet.{NewPlanet}
 use Rattle.founding.specs.declared.named.NewStock.{NewStock}
+use Rattle.founding.specs.declared.named.NewTechnology.{NewTechnology}
+use Rattle.founding.specs.declared.named.NewUnits.{NewUnits}
 
 -- `universe SEED SPEED CAPACITY MOMENT`
 abbrev pub heading_words : Heading → List (List ℕ)
@@ -33,6 +35,14 @@ stock_words stock =
 -- `level C BUILDING L`
 abbrev pub level_words : NewLevel → List (List ℕ)
 level_words level = codes "level" ∷ coord_text level.at ∷ kind_word level.building.kind ∷ decimal level.level ∷ []
+
+-- `tech K TECH L`
+abbrev pub technology_words : NewTechnology → List (List ℕ)
+technology_words new = codes "tech" ∷ player_text new.player ∷ kind_word new.technology.kind ∷ decimal new.level ∷ []
+
+-- `units C UNIT N`
+abbrev pub units_words : NewUnits → List (List ℕ)
+units_words new = codes "units" ∷ coord_text new.at ∷ kind_word new.unit.kind ∷ decimal new.count ∷ []
 
 -- the line has these words, and is no longer than a line of text may be
 pub record IsLineOf (spelled : List (List ℕ)) (line : List ℕ) : Type 0 where

@@ -1,21 +1,27 @@
-ghost use Rattle.std.specs.Prelude.{◌≡◌, ◌≤◌, length, IsTrue, ◌↔◌, MatchOption, None, Some};
+ghost use Rattle.std.specs.Prelude.{◌≡◌, ◌+◌, ◌≤◌, length, IsTrue, ◌↔◌, MatchOption, None, Some};
+ghost use Rattle.catalog.specs.declared.ships.TheConstants.{UNITS};
 ghost use Rattle.base_bytes.specs.Base.{universe_of};
 ghost use Rattle.base_bytes.specs.Sound.{IsSound};
 ghost use Rattle.founding.specs.DraftMaps.{draft_of, planet_of, IsKept};
-ghost use Rattle.founding.specs.Drafts.{begun, planet_at, Adds, Gives, MayName, MayStand, Names, Raises, Stocks};
+ghost use Rattle.founding.specs.Drafts.{begun, planet_at, units_of, Adds, Gives, Mans, MayName, MayStand, MayTeach, Names, Raises, Stocks, Teaches};
+ghost use Rattle.tick_model.specs.Yards.{count_of};
 ghost use Rattle.founding.specs.Founded.{founded};
 ghost use Rattle.founding.specs.Steps.{Steps};
 ghost use Rattle.request_text.specs.declared.line_reader.TheConstants.{LONGEST_LINE};
 
+use crate::account_sketch::AccountSketch;
 use crate::fault::LineFault;
-use crate::filing::{add_place, list_accounts, list_planets, put_back};
+use crate::filing::{add_place, count_units, list_accounts, list_planets, put_back, teach};
 use crate::heading::Heading;
-use crate::named::{NewLevel, NewPlanet, NewStock};
-use crate::read_lines::{read_level, read_planet, read_player, read_stock};
+use crate::named::{NewLevel, NewPlanet, NewStock, NewTechnology, NewUnits};
+use crate::read_lines::{
+    read_level, read_planet, read_player, read_stock, read_technology, read_units,
+};
 use crate::sketch::Sketch;
 use account_cell::Account;
 use base_bytes::Base;
 use base_ids::{Coord, Player};
+use catalog::UNITS;
 use planet_cell::Planet;
 use std::alloc::Global;
 use std::collections::BTreeMap;
@@ -35,8 +41,7 @@ pub const MOST_OWNED: usize = 9;
 pub struct Draft {
     alloc: Global,
     heading: Heading,
-    // The places of the planets of each named player, in their order.
-    players: BTreeMap<Player, Vec<Coord>>,
+    players: BTreeMap<Player, AccountSketch>,
     planets: BTreeMap<Coord, Sketch>,
     account_room: Vec<Account>,
     planet_room: Vec<Planet>,
@@ -77,6 +82,12 @@ impl Draft {
         if let Some(level) = read_level(line) {
             return self.say_level(level);
         }
+        if let Some(technology) = read_technology(line) {
+            return self.say_technology(technology);
+        }
+        if let Some(units) = read_units(line) {
+            return self.say_units(units);
+        }
         Err(LineFault::Bad)
     }
 
@@ -95,7 +106,7 @@ impl Draft {
             account_room,
             planet_room,
         } = self;
-        let accounts = list_accounts(players, account_room);
+        let accounts = list_accounts(alloc, players, account_room);
         let planets = list_planets(alloc, &planets, planet_room);
         heading.base(accounts, planets)
     }
@@ -111,7 +122,7 @@ impl Draft {
         }
         self.account_room.reserve(self.players.len() + 1)?;
         let places = Vec::with_capacity(self.alloc, MOST_OWNED)?;
-        self.players.insert(player, places)?;
+        self.players.insert(player, AccountSketch::new(places))?;
         Ok(())
     }
 
@@ -147,7 +158,7 @@ impl Draft {
             return false;
         }
         match self.players.get(&planet.owner) {
-            Some(places) => places.len() < MOST_OWNED,
+            Some(account) => account.planets.len() < MOST_OWNED,
             None => false,
         }
     }
@@ -192,5 +203,67 @@ impl Draft {
         }
         put_back(&mut self.planets, sketch.raised_to(level));
         Ok(())
+    }
+
+    // Gives a technology of a player the level that a line says.
+    fn say_technology(&mut self, new: NewTechnology) -> Result<(), LineFault>
+        requires { IsKept self.old }
+        ensures steps { Steps (λ old after. Teaches old new after) self.old self.new result }
+        ensures kept { IsKept self.new }
+    {
+        if !self.may_teach(new) {
+            return Err(LineFault::Bad);
+        }
+        teach(&mut self.players, new);
+        Ok(())
+    }
+
+    // Whether a line may say the level: the player is named, and no line has said one of the technology.
+    fn may_teach(&self, new: NewTechnology) -> bool
+        requires { IsKept self.now }
+        ensures { IsTrue result ↔ MayTeach (draft_of self.now) new }
+    {
+        match self.players.get(&new.player) {
+            Some(account) => account.techs.level(new.technology) == 0,
+            None => false,
+        }
+    }
+
+    // Gives a planet the units that a line says, and counts them for its owner, which takes no memory.
+    fn say_units(&mut self, new: NewUnits) -> Result<(), LineFault>
+        requires { IsKept self.old }
+        ensures steps { Steps (λ old after. Mans old new after) self.old self.new result }
+        ensures kept { IsKept self.new }
+    {
+        let Some(sketch) = self.sketch_at(new.at) else {
+            return Err(LineFault::Bad);
+        };
+        if !self.may_man(&sketch, new) {
+            return Err(LineFault::Bad);
+        }
+        put_back(&mut self.planets, sketch.manned_with(new));
+        count_units(&mut self.players, sketch.owner, new.count);
+        Ok(())
+    }
+
+    // Whether a line may say the units: none has said units of the kind, and all units of the owner are few enough.
+    fn may_man(&self, sketch: &Sketch, new: NewUnits) -> bool
+        requires { IsKept self.now }
+        ensures { IsTrue result ↔ (count_of (planet_of sketch.now).own new.unit.kind ≡ 0)
+            × (units_of sketch.now.owner (draft_of self.now).planets + new.count ≤ UNITS) }
+    {
+        sketch.has_none(new.unit) && self.units_of(sketch.owner) + new.count <= UNITS
+    }
+
+    // How many units the planets of a player have.
+    fn units_of(&self, owner: Player) -> u32
+        requires { IsKept self.now }
+        ensures value { result ≡ units_of owner (draft_of self.now).planets }
+        ensures within { result ≤ UNITS }
+    {
+        match self.players.get(&owner) {
+            Some(account) => account.units,
+            None => 0,
+        }
     }
 }

@@ -1,32 +1,58 @@
-ghost use Rattle.std.specs.Prelude.{◌≡◌, ◌≤◌, ◌<◌, [], length, map, true, vec_capacity, AllPairs, IfSome, IsSome};
+ghost use Rattle.std.specs.Prelude.{◌≡◌, ◌+◌, ◌≤◌, ◌<◌, [], length, map, true, vec_capacity, AllPairs, IsSome};
+ghost use Rattle.catalog.specs.declared.ships.TheConstants.{UNITS};
 ghost use Rattle.std.specs.BTreeMap.{get, is_at, values};
 ghost use Rattle.std.specs.List.{AllByRecursion, position};
 ghost use Rattle.std.specs.Map.{set_value};
 ghost use Rattle.base_ids.specs.Order.{coord_before, player_before};
-ghost use Rattle.founding.specs.DraftMaps.{place_order, player_order};
-ghost use Rattle.founding.specs.Drafts.{put};
-ghost use Rattle.founding.specs.Filing.{account_of, facts_of, facts_sketched, AddsPlace, HasRoom};
+ghost use Rattle.founding.specs.DraftMaps.{own_in, place_order, places_in, player_order, units_in};
+ghost use Rattle.founding.specs.Drafts.{learned_to, put};
+ghost use Rattle.founding.specs.Filing.{account_facts, account_sketched, facts_of, facts_sketched, Alters, HasRoom, IsListed};
 
+use crate::account_sketch::AccountSketch;
+use crate::named::NewTechnology;
 use crate::sketch::Sketch;
 use account_cell::Account;
 use base_ids::{Coord, Player};
-use catalog::Techs;
 use planet_cell::Planet;
 use std::alloc::Global;
 use std::collections::BTreeMap;
 
 /// Adds a place to those of a player, where it belongs in their order.
-pub fn add_place(players: &mut BTreeMap<Player, Vec<Coord>>, owner: Player, at: Coord)
+pub fn add_place(players: &mut BTreeMap<Player, AccountSketch>, owner: Player, at: Coord)
     requires { HasRoom (get player_order players.old owner) }
-    ensures { AddsPlace owner at players.old players.new }
+    ensures { Alters owner (put coord_before at (places_in (get player_order players.old owner)))
+        (own_in (get player_order players.old owner)) (units_in (get player_order players.old owner)) players.old players.new }
 {
-    if let Some(places) = players.get_mut(&owner) {
-        insert_place(places, at);
+    if let Some(account) = players.get_mut(&owner) {
+        account.add_place(at);
+    }
+}
+
+/// The account of a player has the level of a technology that a line says.
+pub fn teach(players: &mut BTreeMap<Player, AccountSketch>, new: NewTechnology)
+    requires { IsListed (get player_order players.old new.player) }
+    ensures { Alters new.player (places_in (get player_order players.old new.player))
+        (learned_to new (own_in (get player_order players.old new.player))) (units_in (get player_order players.old new.player)) players.old players.new }
+{
+    if let Some(account) = players.get_mut(&new.player) {
+        account.learn(new);
+    }
+}
+
+/// The planets of a player have so many more units.
+pub fn count_units(players: &mut BTreeMap<Player, AccountSketch>, owner: Player, count: u32)
+    requires listed { IsListed (get player_order players.old owner) }
+    requires room { units_in (get player_order players.old owner) + count ≤ UNITS }
+    ensures { Alters owner (places_in (get player_order players.old owner))
+        (own_in (get player_order players.old owner)) (units_in (get player_order players.old owner) + count) players.old players.new }
+{
+    if let Some(account) = players.get_mut(&owner) {
+        account.count_units(count);
     }
 }
 
 // Adds a place to a list that has room for it, where it belongs in the order of places.
-fn insert_place(places: &mut Vec<Coord>, at: Coord)
+pub(crate) fn insert_place(places: &mut Vec<Coord>, at: Coord)
     requires { length places.old.items < vec_capacity places.old }
     ensures items { places.new.items ≡ put coord_before at places.old.items }
     ensures capacity { vec_capacity places.old ≤ vec_capacity places.new }
@@ -60,22 +86,39 @@ pub fn put_back(planets: &mut BTreeMap<Coord, Sketch>, sketch: Sketch)
 }
 
 /// The accounts of the players in their order, in a list that has room for them.
-pub fn list_accounts(players: BTreeMap<Player, Vec<Coord>>, mut list: Vec<Account>) -> Vec<Account>
+pub fn list_accounts(
+    alloc: Global,
+    players: BTreeMap<Player, AccountSketch>,
+    mut list: Vec<Account>,
+) -> Vec<Account>
     requires empty { list.items ≡ [] }
     requires room { length players.entries ≤ vec_capacity list }
-    ensures items { result.items ≡ map account_of players.entries }
+    ensures items { map account_facts result.items ≡ map account_sketched players.entries }
+    ensures ordered { AllPairs (λ first second. player_before first.0 second.0 ≡ true) players.entries }
     ensures rise { AllPairs (λ first second. player_before first.player second.player ≡ true) result.items }
 {
-    'players: for (player, planets) in players {
-        let account = Account {
-            player,
-            techs: Techs { n: [0; 14] },
-            planets,
-            units: 0,
-        };
-        list.push(account).unwrap();
+    'players: for (player, account) in players {
+        list.push(found(alloc, player, account)).unwrap();
     }
     list
+}
+
+// The account of a player as it is founded, with an empty queue. It takes no memory.
+fn found(alloc: Global, player: Player, account: AccountSketch) -> Account
+    ensures { account_facts result ≡ account_sketched (player, account) }
+{
+    let AccountSketch {
+        techs,
+        planets,
+        units,
+    } = account;
+    Account {
+        player,
+        techs,
+        planets,
+        units,
+        research: Vec::new(alloc),
+    }
 }
 
 /// The planets in their order, in a list that has room for them.

@@ -1,6 +1,7 @@
 //! Founding texts: lines of which each is judged by the lines before it, and the universe that they found.
 #![tactic(auto)]
 
+mod account_sketch;
 mod draft;
 mod fault;
 mod filing;

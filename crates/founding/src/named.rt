@@ -1,10 +1,11 @@
 ghost use Rattle.std.specs.Prelude.{◌≤◌, ◌≤ℤ◌};
 ghost use Rattle.catalog.specs.Levels.{level_cap_of};
+ghost use Rattle.founding.specs.Bounds.{most_units};
 ghost use Rattle.founding.specs.declared.named.TheConstants.{MOST_FIELDS};
 ghost use Rattle.rates.specs.declared.works.TheConstants.{COLDEST, HOTTEST};
 
 use base_ids::{Coord, Player};
-use catalog::{Amounts, Building};
+use catalog::{Amounts, Building, Technology, Unit};
 
 /// The most fields of a planet.
 pub const MOST_FIELDS: u16 = 400;
@@ -40,4 +41,25 @@ pub struct NewLevel {
     pub level: u8,
     pub ghost level_from: { 1 ≤ level },
     pub ghost level_to: { level ≤ level_cap_of building.kind },
+}
+
+/// What the line `tech K TECH L` says: a player, a technology, and its level in the player's account.
+#[derive(Clone, Copy, Debug)]
+pub struct NewTechnology {
+    pub player: Player,
+    pub technology: Technology,
+    pub level: u8,
+    pub ghost level_from: { 1 ≤ level },
+    pub ghost level_to: { level ≤ level_cap_of technology.kind },
+}
+
+/// What the line `units C UNIT N` says: a place, a kind of unit, and how many of it stand on the planet there: one dome, or 1 to
+/// `catalog::UNITS` of any other kind.
+#[derive(Clone, Copy, Debug)]
+pub struct NewUnits {
+    pub at: Coord,
+    pub unit: Unit,
+    pub count: u32,
+    pub ghost count_from: { 1 ≤ count },
+    pub ghost count_to: { count ≤ most_units unit.kind },
 }

@@ -1,18 +1,22 @@
-ghost use Rattle.std.specs.Prelude.{◌≡◌, List, ℕ, [], ◌∷◌, MatchOption};
+ghost use Rattle.std.specs.Prelude.{◌≡◌, List, ℕ, [], ◌∷◌, ◌≤◌, MatchOption};
 ghost use Rattle.base_text.specs.Parts.{words};
 ghost use Rattle.base_ids.specs.declared.player.Player.{Player};
-ghost use Rattle.founding.specs.Lines.{heading_words, level_words, planet_words, player_words, stock_words};
+ghost use Rattle.founding.specs.Lines.{heading_words, level_words, planet_words, player_words, stock_words, technology_words, units_words};
+ghost use Rattle.founding.specs.Bounds.{most_units};
+ghost use Rattle.catalog.specs.declared.ships.TheConstants.{UNITS};
 ghost use Rattle.founding.specs.declared.heading.Heading.{Heading};
 ghost use Rattle.founding.specs.declared.named.NewLevel.{NewLevel};
 ghost use Rattle.founding.specs.declared.named.NewPlanet.{NewPlanet};
 ghost use Rattle.founding.specs.declared.named.NewStock.{NewStock};
+ghost use Rattle.founding.specs.declared.named.NewTechnology.{NewTechnology};
+ghost use Rattle.founding.specs.declared.named.NewUnits.{NewUnits};
 
 use crate::heading::Heading;
-use crate::named::{MOST_FIELDS, NewLevel, NewPlanet, NewStock};
+use crate::named::{MOST_FIELDS, NewLevel, NewPlanet, NewStock, NewTechnology, NewUnits};
 use base_bytes::MOST_REQUESTS;
 use base_ids::Player;
 use base_text::{cut, is_same, number, positive_number, signed_number};
-use catalog::{Amounts, Building, CAP, Class, TOP_SPEED};
+use catalog::{Amounts, Building, CAP, Class, Kind, TOP_SPEED, Technology, UNITS, Unit};
 use ports::LATEST;
 use rates::{COLDEST, HOTTEST};
 use request_text::{coord, player};
@@ -146,4 +150,55 @@ pub fn read_level(line: &[u8]) -> Option<NewLevel>
         building,
         level: level as u8,
     })
+}
+
+/// What a line `tech K TECH L` says. `None` exactly if the line is no such line.
+pub fn read_technology(line: &[u8]) -> Option<NewTechnology>
+    ensures { MatchOption result
+        ((t : NewTechnology) → words line.now ≡ technology_words t → ⊥)
+        (λ t. words line.now ≡ technology_words t) }
+{
+    let (form, number, word, level) = four_words(line)?;
+    if !is_same(form, b"tech") {
+        return None;
+    }
+    let player = player(number)?;
+    let technology = Technology::read(word)?;
+    let level = positive_number(level, u64::from(technology.kind.level_cap()))?;
+    Some(NewTechnology {
+        player,
+        technology,
+        level: level as u8,
+    })
+}
+
+/// What a line `units C UNIT N` says. `None` exactly if the line is no such line.
+pub fn read_units(line: &[u8]) -> Option<NewUnits>
+    ensures { MatchOption result
+        ((u : NewUnits) → words line.now ≡ units_words u → ⊥)
+        (λ u. words line.now ≡ units_words u) }
+{
+    let (form, place, word, count) = four_words(line)?;
+    if !is_same(form, b"units") {
+        return None;
+    }
+    let at = coord(place)?;
+    let unit = Unit::read(word)?;
+    let count = positive_number(count, u64::from(most_units(unit)))?;
+    Some(NewUnits {
+        at,
+        unit,
+        count: count as u32,
+    })
+}
+
+// How many units of a kind a line may say at most: one dome, or as many of any other kind as an account may have.
+fn most_units(unit: Unit) -> u32
+    ensures value { result ≡ most_units unit.kind }
+    ensures within { result ≤ UNITS }
+{
+    match unit.kind {
+        Kind::SmallDome | Kind::LargeDome => 1,
+        _ => UNITS,
+    }
 }

@@ -1,19 +1,22 @@
-ghost use Rattle.std.specs.Prelude.{[], ◌≤ℤ◌};
+ghost use Rattle.std.specs.Prelude.{[], ◌≡◌, ◌≤◌, ◌≤ℤ◌, length, sum};
+ghost use Rattle.catalog.specs.declared.classes.TheConstants.{UNIT_KINDS};
+ghost use Rattle.catalog.specs.declared.ships.TheConstants.{UNITS};
 ghost use Rattle.planet_cell.specs.Bounds.{AreWithinCaps};
 ghost use Rattle.rates.specs.Stock.{IsWithinCap};
 ghost use Rattle.rates.specs.declared.works.TheConstants.{COLDEST, HOTTEST};
 
-use crate::named::{FIRST_UNITS, NewLevel, NewPlanet, NewStock};
+use crate::named::{FIRST_UNITS, NewLevel, NewPlanet, NewStock, NewUnits};
 use base_ids::{Coord, Player};
-use catalog::Building;
-use planet_cell::{Planet, place_of};
+use catalog::{Building, Unit};
+use planet_cell::{Planet, place_of, place_of_unit};
 use rates::{GRAINS, Resources};
 use std::alloc::Global;
 use tick_model::Debris;
 
 /// A planet as lines have made it so far: its place, its owner, its maximum temperature in degrees, its fields, the levels of
-/// its buildings in the order of `catalog::BUILDINGS`, its stocks in grains, and whether a line has said them. A building whose
-/// level no line has said has level 0.
+/// its buildings in the order of `catalog::BUILDINGS`, its stocks in grains, whether a line has said them, and its units in the
+/// order of `catalog::UNIT_KINDS`, together at most `catalog::UNITS`. A building whose level no line has said has level 0, and of
+/// units that no line has said there are none.
 #[derive(Clone, Copy, Debug)]
 pub struct Sketch {
     pub at: Coord,
@@ -23,19 +26,24 @@ pub struct Sketch {
     pub levels: [u8; 11],
     pub stock: Resources,
     pub stocked: bool,
+    pub units: [u32; 22],
     pub ghost coldest: { COLDEST ≤ℤ temperature },
     pub ghost hottest: { temperature ≤ℤ HOTTEST },
     pub ghost within_cap: { IsWithinCap stock },
     pub ghost within_levels: { AreWithinCaps levels [] },
+    pub ghost kinds: { length units ≡ length UNIT_KINDS },
+    pub ghost within_units: { sum units ≤ UNITS },
 }
 
 impl Sketch {
-    ghost use Rattle.std.specs.Prelude.{◌≡◌, ◌≤◌, ◌+◌, [], IsTrue, ◌↔◌};
+    ghost use Rattle.std.specs.Prelude.{◌≡◌, ◌≤◌, ◌+◌, [], IsTrue, ◌↔◌, sum};
+    ghost use Rattle.catalog.specs.declared.ships.TheConstants.{UNITS};
     ghost use Rattle.founding.specs.DraftMaps.{own_of, planet_of};
-    ghost use Rattle.founding.specs.Drafts.{first_planet, raised_to, stocked_with};
+    ghost use Rattle.founding.specs.Drafts.{first_planet, manned_with, raised_to, stocked_with};
     ghost use Rattle.planet_cell.specs.Planet.{fields_of};
     ghost use Rattle.tick_model.specs.Production.{level_of};
     ghost use Rattle.tick_model.specs.Refusals.{used_fields};
+    ghost use Rattle.tick_model.specs.Yards.{count_of};
 
     /// A planet as its line founds it.
     pub fn new(planet: NewPlanet) -> Sketch
@@ -53,6 +61,7 @@ impl Sketch {
                 deuterium: 0,
             },
             stocked: false,
+            units: [0; 22],
         }
     }
 
@@ -75,6 +84,24 @@ impl Sketch {
     {
         self.levels[place_of(level.building)] = level.level;
         self
+    }
+
+    /// The planet with the units of a kind that a line says.
+    pub fn manned_with(mut self, new: NewUnits) -> Sketch
+        requires { sum self.units + new.count ≤ UNITS }
+        ensures planet { planet_of result ≡ manned_with new (planet_of self) }
+        ensures total { count_of (own_of self) new.unit.kind ≡ 0 → sum result.units ≡ sum self.units + new.count }
+    {
+        self.units[place_of_unit(new.unit)] = new.count;
+        self
+    }
+
+    /// Whether no line has said how many units of a kind there are.
+    #[tactic(auto, unfolding(tick_model::specs::Yards::count_of))]
+    pub fn has_none(&self, unit: Unit) -> bool
+        ensures { IsTrue result ↔ (count_of (own_of self.now) unit.kind ≡ 0) }
+    {
+        self.units[place_of_unit(unit)] == 0
     }
 
     /// Whether a line may say the level: none has said one of the building, and the planet has fields for all its levels.
@@ -105,11 +132,12 @@ impl Sketch {
         used
     }
 
-    /// The planet as it is founded, with an empty queue. It takes no memory.
+    /// The planet as it is founded, with empty queues. It takes no memory.
     pub fn planet(&self, alloc: Global) -> Planet
         ensures at { result.at ≡ self.now.at }
         ensures fields { fields_of result ≡ own_of self.now }
         ensures queue { result.buildings.items ≡ [] }
+        ensures yard { result.yard.items ≡ [] }
     {
         let levels = self.levels;
         Planet {
@@ -124,8 +152,9 @@ impl Sketch {
                 metal: 0,
                 crystal: 0,
             },
-            units: [0; 22],
+            units: self.units,
             buildings: Vec::new(alloc),
+            yard: Vec::new(alloc),
         }
     }
 }

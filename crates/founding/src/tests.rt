@@ -106,7 +106,7 @@ fn a_line_is_judged_by_the_lines_before_it(rt: HostRuntime) -> Result<(), Fail> 
             5,
         ),
         (b"player 2\n\n.\n", 4),
-        (b"tech 1 energy 1\n.\n", 3),
+        (b"free 1:1:1 40 163\n.\n", 3),
         (b" .\n.\n", 3),
     ];
     for (lines, number) in cases {
@@ -349,12 +349,84 @@ fn bad_stock_and_level_lines_are_named(rt: HostRuntime) -> Result<(), Fail> {
 }
 
 #[test]
+fn a_tech_line_says_the_level_of_a_technology(rt: HostRuntime) -> Result<(), Fail> {
+    let base = base_of(
+        rt.alloc(),
+        b"universe 7 1 9 0\nplayer 2\ntech 2 laser 20\nplayer 1\ntech 1 graviton 1\ntech 1 laser 3\n.\n",
+    )?;
+    assert_eq!(rt; base.accounts.len(), 2);
+    assert_eq!(rt;
+        base.accounts[0].techs.n,
+        [0, 3, 0, 0, 0, 0, 0, 0, 0, 0, 0, 0, 0, 1]
+    );
+    assert_eq!(rt;
+        base.accounts[1].techs.n,
+        [0, 20, 0, 0, 0, 0, 0, 0, 0, 0, 0, 0, 0, 0]
+    );
+    assert_eq!(rt; base.accounts[0].research.len(), 0);
+    Ok(())
+}
+
+#[test]
+fn a_units_line_says_the_units_of_a_planet(rt: HostRuntime) -> Result<(), Fail> {
+    let base = built_of(
+        rt.alloc(),
+        b"units 1:1:1 probe 3\nplanet 1:1:2 1 40 20\nunits 1:1:1 largedome 1\nunits 1:1:1 smalldome 1\nunits 1:1:2 probe 99995\nplayer 2\nplanet 1:1:3 2 40 20\nunits 1:1:3 smallcargo 100000\n.\n",
+    )?;
+    assert_eq!(rt; (base.accounts.len(), base.planets.len()), (2, 3));
+    let first = [
+        0, 0, 0, 0, 0, 0, 0, 0, 0, 0, 0, 0, 3, 0, 0, 0, 0, 0, 0, 0, 1, 1,
+    ];
+    assert_eq!(rt; base.planets[0].units, first);
+    assert_eq!(rt; base.planets[2].units[0], 100_000);
+    assert_eq!(rt;
+        (base.accounts[0].units, base.accounts[1].units),
+        (100_000, 100_000)
+    );
+    Ok(())
+}
+
+#[test]
+fn bad_tech_and_units_lines_are_named(rt: HostRuntime) -> Result<(), Fail> {
+    let cases: [(&[u8], u64); 17] = [
+        (b"tech 2 energy 1\n.\n", 4),
+        (b"tech 2 energy 1\nplayer 2\n.\n", 4),
+        (b"tech 1 energy 0\n.\n", 4),
+        (b"tech 1 energy 21\n.\n", 4),
+        (b"tech 1 graviton 2\n.\n", 4),
+        (b"tech 1 metalmine 1\n.\n", 4),
+        (b"tech 1 energy\n.\n", 4),
+        (b"tech 1 energy 1\ntech 1 energy 2\n.\n", 5),
+        (b"units 1:1:2 probe 1\n.\n", 4),
+        (b"units 1:1:1 probe 0\n.\n", 4),
+        (b"units 1:1:1 probe 100001\n.\n", 4),
+        (b"units 1:1:1 smalldome 2\n.\n", 4),
+        (b"units 1:1:1 largedome 2\n.\n", 4),
+        (b"units 1:1:1 lab 1\n.\n", 4),
+        (b"units 1:1:1 probe 1\nunits 1:1:1 probe 1\n.\n", 5),
+        (
+            b"units 1:1:1 probe 60000\nunits 1:1:1 launcher 40001\n.\n",
+            5,
+        ),
+        (
+            b"planet 1:1:2 1 40 20\nunits 1:1:1 probe 60000\nunits 1:1:2 probe 40001\n.\n",
+            6,
+        ),
+    ];
+    for (lines, number) in cases {
+        assert_eq!(rt; bad_built(rt.alloc(), lines)?, Err(number));
+    }
+    Ok(())
+}
+
+#[test]
 fn lines_of_each_form_found_one_universe(rt: HostRuntime) -> Result<(), Fail> {
     let base = built_of(
         rt.alloc(),
-        b"stock 1:1:1 1 1 1\nlevel 1:1:1 lab 1\nplayer 2\nplanet 1:1:2 2 40 20\n.\n",
+        b"stock 1:1:1 1 1 1\nlevel 1:1:1 lab 1\nplayer 2\nplanet 1:1:2 2 40 20\ntech 2 ion 1\nunits 1:1:2 gauss 2\n.\n",
     )?;
     assert_eq!(rt; (base.accounts.len(), base.planets.len()), (2, 2));
+    assert_eq!(rt; (base.accounts[0].units, base.accounts[1].units), (0, 2));
     Ok(())
 }
 

@@ -1,36 +1,39 @@
 -- An event that happens to cells that are held, and the universe that they show.
-use Rattle.std.proofs.Common.{◌≡◌, ◌-◌, Bool, true, false, cond, ◌&&◌, List, ◌∷◌, refl, ap, ◌∙◌, sym, subst, inr, Option, Some, None}
-use Rattle.std.specs.Prelude.{IfSome, option_map, if◌then◌else◌}
+use Rattle.std.proofs.Common.{◌≡◌, ℕ, ◌-◌, Bool, true, false, cond, List, [], ◌∷◌, refl, ap, ◌∙◌, sym, subst, inl, inr, Option, Some, None}
+use Rattle.std.specs.Prelude.{IfSome, is_some, option_map}
 use Rattle.std.specs.BTreeMap.{get}
-use Rattle.base_ids.specs.Cells.{same_cell}
 use Rattle.base_ids.specs.declared.cell_id.CellId.{CellId}
 use Rattle.base_ids.specs.declared.cell_id.CellId.TheVariants.{Planet}
 use Rattle.base_ids.specs.declared.coord.Coord.{Coord}
+use Rattle.base_ids.specs.declared.player.Player.{Player}
+use Rattle.laziness.proofs.Bringing.{never, test}
 use Rattle.laziness.specs.Stamps.{Stamps, bring_to, event_acts}
-use Rattle.planet_cell.specs.Planet.{fields_of, items_of}
-use Rattle.planet_cell.specs.Queue.{finished}
-use Rattle.rates.specs.Times.{times}
-use Rattle.tick_model.specs.Buildings.{done}
-use Rattle.tick_model.specs.Events.{built, Owes, effect, footprint}
+use Rattle.tick_model.specs.Changes.{seen_after}
+use Rattle.tick_model.specs.Events.{Owes, event_change, footprint}
 use Rattle.tick_model.specs.Game.{game}
-use Rattle.tick_model.specs.Production.{gains, planet_second}
-use Rattle.tick_model.specs.Rules.{IsIn}
-use Rattle.tick_model.specs.Universe.{Buildings, Item, of_planet, PlanetFields, Setting, State, same_class}
-use Rattle.tick_model.specs.Views.{View, queue, view}
-use Rattle.tick_model.proofs.Effects.{effect-is, event-outside}
-use Rattle.tick_model.proofs.Follows.{Follows, builds, follows-in}
-use Rattle.tick_model.proofs.Gains.{none-gained, view-advanced}
-use Rattle.tick_model.proofs.Lists.{cell-is, cell-itself}
-use Rattle.tick_model.proofs.Writes.{is_building_at, with_buildings}
-use Rattle.happenings.specs.Applying.{Happens, done_at}
-use Rattle.happenings.specs.Held.{IsNamed, Shows, ShowsCell, Stand, held_at, planet_stand}
-use Rattle.happenings.specs.Orders.{place_order}
+use Rattle.tick_model.specs.Production.{gains}
+use Rattle.tick_model.specs.Rules.{KeepsRules}
+use Rattle.tick_model.specs.Universe.{Item, QueueClass, Setting}
+use Rattle.tick_model.specs.Views.{View, shown, view}
+use Rattle.tick_model.specs.declared.rules.Rules.{Rules}
+use Rattle.tick_model.proofs.Effects.{event-outside, seen_of as seen_by_event}
+use Rattle.tick_model.proofs.Gains.{advance-keeps, gains-owe, none-gained, view-advanced}
+use Rattle.tick_model.proofs.Queues.{owed-home}
+use Rattle.tick_model.proofs.Seen.{event-seen}
+use Rattle.tick_model.proofs.Writes.{shown-alike}
+use Rattle.happenings.specs.Applying.{Happens, change_then, stand_after}
+use Rattle.happenings.specs.Coming.{ActsIn}
+use Rattle.happenings.specs.Gaining.{gained, gained_at}
+use Rattle.happenings.specs.Held.{IsNamed, Shows, ShowsCell, Stand, held_at, holds, planet_stand}
+use Rattle.happenings.specs.Orders.{place_order, player_order}
+use Rattle.happenings.specs.Queues.{class_of, event_of, home_of, items_held, seen_held, seen_of}
 use Rattle.happenings.specs.declared.due.Due.{Due}
+use Rattle.happenings.specs.declared.held.AccountCell.{AccountCell}
 use Rattle.happenings.specs.declared.held.Held.{Held}
 use Rattle.happenings.specs.declared.held.PlanetCell.{PlanetCell}
-use Rattle.happenings.proofs.Standing.{all-building, building-seen, planet_seen, queue-is, seen-gains}
+use Rattle.happenings.specs.declared.queue.Queue.{Queue}
 
--- what is shown of a planet that is held
+-- what is shown of a cell that is held
 pub shows_planet : (setting : Setting) (held : Held) (f : Stamps (game setting)) (at : Coord) (cell : PlanetCell) → Shows setting held f → get place_order held.planets at ≡ Some cell
     → ShowsCell setting f (Planet at) (planet_stand cell)
 shows_planet setting held f at cell shows found = subst (λ (o : Option Stand). IfSome o (ShowsCell setting f (Planet at))) (ap (option_map planet_stand) found) (shows (Planet at))
@@ -38,79 +41,99 @@ shows_planet setting held f at cell shows found = subst (λ (o : Option Stand). 
 pub named_planet : (held : Held) (at : Coord) (cell : PlanetCell) → IsNamed held → get place_order held.planets at ≡ Some cell → cell.planet.at ≡ at
 named_planet held at cell named found = subst (λ (o : Option PlanetCell). IfSome o (λ c. c.planet.at ≡ at)) found (named.places at)
 
--- the items of the new queue stand in it
-new-building : (at : Coord) (item : Item) (later queue : List Item) → ((x : Item) → IsIn x (item ∷ later) → is_building_at (Planet at) x ≡ true) → Follows later queue
-    → (x : Item) → IsIn x queue → is_building_at (Planet at) x ≡ true
-new-building at item later queue olds follows x is =
-    let found = follows-in later queue follows x is in
-    (λ i. same_cell (Planet at) (found.2.place i) && same_class Buildings (found.2.class i)) ∙ olds found.0 (inr found.1)
+pub named_account : (held : Held) (player : Player) (cell : AccountCell) → IsNamed held → get player_order held.accounts player ≡ Some cell → cell.account.player ≡ player
+named_account held player cell named found = subst (λ (o : Option AccountCell). IfSome o (λ c. c.account.player ≡ player)) found (named.players player)
 
--- the state before and after an event, at the event's cell
-pub event-seen : (setting : Setting) (state : State) (at : Coord) (fields : PlanetFields) (items : List Item) (item : Item) (later : List Item)
-    → view setting.cells state (Planet at) ≡ planet_seen (of_planet fields) items → items ≡ item ∷ later → item.cell ≡ Planet at
-    → ((x : Item) → IsIn x items → is_building_at (Planet at) x ≡ true)
-    → view setting.cells (effect setting (built item later) state) (Planet at)
-    ≡ planet_seen (done setting.rules.speed item later (of_planet fields)).own (done setting.rules.speed item later (of_planet fields)).queue
-event-seen setting state at fields items item later seen is place olds =
-    let speed = setting.rules.speed in
-    let came = done speed item later (of_planet fields) in
-    let own : state.own item.cell ≡ of_planet fields = ap state.own place ∙ ap (λ (v : View). v.own) seen in
-    let built : effect setting (built item later) state ≡ with_buildings (Planet at) came.own came.queue state =
-    effect-is setting item later state ∙ (λ i. with_buildings (place i) (done speed item later (own i)).own (done speed item later (own i)).queue state) in
-    let news = new-building at item later came.queue (λ x has. olds x (subst (IsIn x) (sym is) has)) (builds speed item later (of_planet fields)).follows in
-    ap (λ s. view setting.cells s (Planet at)) built ∙ building-seen setting.cells at came.own (of_planet fields) came.queue items state seen olds news
+seen-shown : (setting : Setting) (f : Stamps (game setting)) (cell : CellId) (o : Option Stand) → is_some o ≡ true → IfSome o (ShowsCell setting f cell) → seen_of o ≡ view setting.cells f.universe cell
+seen-shown setting f cell None held shown = never false held refl
+seen-shown setting f cell (Some stand) held shown = shown.seen
 
-put_at : (setting : Setting) (f : Stamps (game setting)) (x : CellId) (b : Bool) (stand : Stand) (old : Option Stand) → (b ≡ true → ShowsCell setting f x stand)
-    → (b ≡ false → IfSome old (ShowsCell setting f x)) → IfSome (cond b (Some stand) old) (ShowsCell setting f x)
-put_at setting f x true stand old here there = here refl
-put_at setting f x false stand old here there = there refl
+-- what is held of a cell is what its universe has of it
+pub held-seen : (setting : Setting) (held : Held) (f : Stamps (game setting)) (cell : CellId) → Shows setting held f → holds held cell ≡ true
+    → seen_held held cell ≡ view setting.cells f.universe cell
+held-seen setting held f cell shows inside = seen-shown setting f cell (held_at held cell) inside (shows cell)
+
+some-held : (o : Option Stand) (class : QueueClass) (item : Item) (later : List Item) → (seen_of o).queue class ≡ item ∷ later → is_some o ≡ true
+some-held None class item later is = let none : [] ≡ item ∷ later = is in absurd cc
+some-held (Some stand) class item later is = refl
+
+-- a queue that is not empty is that of a cell that is held
+pub queue-inside : (held : Held) (queue : Queue) (item : Item) (later : List Item) → items_held held queue ≡ item ∷ later → holds held (home_of queue) ≡ true
+queue-inside held queue item later is = some-held (held_at held (home_of queue)) (class_of queue) item later is
+
+-- so what is owed is owed in the universe, by the cell of the item
+pub owed-there : (setting : Setting) (held : Held) (f : Stamps (game setting)) (queue : Queue) (item : Item) (later : List Item) → Shows setting held f → items_held held queue ≡ item ∷ later
+    → (item.cell ≡ home_of queue) × Owes (view setting.cells f.universe item.cell) (event_of queue item later)
+owed-there setting held f queue item later shows is =
+    let seen = held-seen setting held f (home_of queue) shows (queue-inside held queue item later is) in
+    let stands = ap (λ (v : View). v.queue (class_of queue)) (sym seen) ∙ is in
+    let place = owed-home f.universe (class_of queue) (home_of queue) item later stands in
+    (place, ap (λ x. (view setting.cells f.universe x).queue (class_of queue)) place ∙ stands)
+
+-- a cell of the footprint, once it gained
+gained-shown : (setting : Setting) (f : Stamps (game setting)) (S : CellId → Bool) (second : ℕ) (cell : CellId) (o : Option Stand) → S cell ≡ true → is_some o ≡ true → IfSome o (ShowsCell setting f cell)
+    → seen_of (option_map (gained setting.rules second) o) ≡ view setting.cells (bring_to (game setting) S second f).universe cell
+gained-shown setting f S second cell None has held shown = never false held refl
+gained-shown setting f S second cell (Some stand) has held shown =
+    let seconds : second - stand.second ≡ cond (S cell) (second - f.at cell) 0 =
+    ap (λ s. second - s) shown.second ∙ sym (ap (λ b. cond b (second - f.at cell) 0) has) in
+    (λ i. gains setting.rules (seconds i) (shown.seen i)) ∙ sym (view-advanced setting (λ x. cond (S x) (second - f.at x) 0) f.universe cell)
 
 if_some : {A : Type 0} (o : Option A) (P Q : A → Type 0) → ((x : A) → P x → Q x) → IfSome o P → IfSome o Q
 if_some None P Q f p = tt
 if_some (Some x) P Q f p = f x p
 
+mapped-shown : {A : Type 0} (o : Option A) (f : A → A) (P Q : A → Type 0) → ((x : A) → o ≡ Some x → P x → Q (f x)) → IfSome o P → IfSome (option_map f o) Q
+mapped-shown None f P Q g p = tt
+mapped-shown (Some x) f P Q g p = g x refl p
+
 -- the cells show the universe in which the event acts
-pub shows_event : (setting : Setting) (f : Stamps (game setting)) (old new : Held) (due : Due) (cell : PlanetCell) (item : Item) (later : List Item)
-    → Shows setting old f → IsNamed old → get place_order old.planets due.at ≡ Some cell → items_of cell.planet ≡ item ∷ later → item.cell ≡ Planet due.at → item.second ≡ due.second
-    → Happens setting.rules.speed due old new → Shows setting new (event_acts (game setting) (built item later) f)
-shows_event setting f old new due cell item later shows named found items place second happens x =
+pub shows_event : (setting : Setting) (f : Stamps (game setting)) (old new : Held) (due : Due) (item : Item) (later : List Item)
+    → Shows setting old f → KeepsRules setting f.universe → items_held old due.queue ≡ item ∷ later
+    → ((cell : CellId) → footprint (event_of due.queue item later) cell ≡ true → holds old cell ≡ true)
+    → Happens setting.rules due old new → Shows setting new (event_acts (game setting) (event_of due.queue item later) f)
+shows_event setting f old new due item later shows fine owed within happens x =
     let M = game setting in
-    let e = built item later in
+    let e = event_of due.queue item later in
+    let cells = footprint e in
+    let second = item.second in
+    let b = bring_to M cells second f in
     let g = event_acts M e f in
-    let b = bring_to M (footprint e) item.second f in
-    let at = due.at in
-    let shown = shows_planet setting old f at cell shows found in
-    let own : cell.planet.at ≡ at = named_planet old at cell named found in
-    let fields = times (due.second - cell.second) (planet_second setting.rules.speed) (fields_of cell.planet) in
-    let has : same_cell item.cell (Planet at) ≡ true = ap (λ c. same_cell c (Planet at)) place ∙ cell-itself (Planet at) in
-    let stands : Owes (view setting.cells f.universe item.cell) e = ap (λ c. queue Buildings (view setting.cells f.universe c).items) place ∙ ap (λ (v : View). queue Buildings v.items) (sym shown.seen)
-    ∙ queue-is cell.planet.at cell.planet.buildings.items ∙ items in
-    let seconds : item.second - f.at (Planet at) ≡ due.second - cell.second = λ i. second i - sym shown.second i in
-    let olds : (y : Item) → IsIn y (items_of cell.planet) → is_building_at (Planet at) y ≡ true =
-    (λ y is. subst (λ (c : Coord). is_building_at (Planet c) y ≡ true) own (all-building cell.planet.at cell.planet.buildings.items y is)) in
-    let brought : view setting.cells b.universe (Planet at) ≡ planet_seen (of_planet fields) (items_of cell.planet) =
-    view-advanced setting (λ y. if footprint e y then item.second - f.at y else 0) f.universe (Planet at)
-    ∙ (λ i. gains setting.rules (cond (has i) (seconds i) 0) (sym shown.seen i))
-    ∙ seen-gains setting.rules (due.second - cell.second) (fields_of cell.planet) (items_of cell.planet) in
-    let seen = event-seen setting b.universe at fields (items_of cell.planet) item later brought items place olds in
-    let finishes : finished setting.rules.speed fields (items_of cell.planet) ≡ done setting.rules.speed item later (of_planet fields) = ap (finished setting.rules.speed fields) items in
-    let here : ShowsCell setting g (Planet at) (done_at setting.rules.speed due.second cell) =
-    record {
-      second = sym second ∙ sym (ap (λ c. cond c item.second (f.at (Planet at))) has);
-      seen = (λ i. planet_seen (finishes i).own (finishes i).queue) ∙ sym seen;
-    } in
-    let placed = happens cell found in
-    subst (λ (o : Option Stand). IfSome o (ShowsCell setting g x)) (sym (placed x))
-    (put_at setting g x (same_cell (Planet at) x) (done_at setting.rules.speed due.second cell) (held_at old x)
-    (λ same. subst (λ y. ShowsCell setting g y (done_at setting.rules.speed due.second cell)) (cell-is (Planet at) x same) here)
-    (λ other.
-    let outside : footprint e x ≡ false = ap (λ c. same_cell c x) place ∙ other in
-    let still : view setting.cells b.universe x ≡ view setting.cells f.universe x =
-    view-advanced setting (λ y. if footprint e y then item.second - f.at y else 0) f.universe x
-    ∙ ap (λ c. gains setting.rules (cond c (item.second - f.at x) 0) (view setting.cells f.universe x)) outside ∙ none-gained setting.rules (view setting.cells f.universe x) in
-    let owes : Owes (view setting.cells b.universe item.cell) e =
-    ap (λ c. queue Buildings (view setting.cells b.universe c).items) place ∙ ap (λ (v : View). queue Buildings v.items) brought ∙ queue-is cell.planet.at cell.planet.buildings.items ∙ items in
-    let kept = event-outside setting b.universe e x owes outside ∙ still in
-    let at_same : g.at x ≡ f.at x = ap (λ c. cond c item.second (f.at x)) outside in
-    if_some (held_at old x) (ShowsCell setting f x) (ShowsCell setting g x)
-    (λ stand shown. record { second = shown.second ∙ sym at_same; seen = shown.seen ∙ sym kept }) (shows x)))
+    let there = owed-there setting old f due.queue item later shows owed in
+    let kept = advance-keeps setting (λ y. cond (cells y) (second - f.at y) 0) f.universe fine in
+    let stands : Owes (view setting.cells b.universe item.cell) e =
+    ap (λ (v : View). v.queue (class_of due.queue)) (view-advanced setting (λ y. cond (cells y) (second - f.at y) 0) f.universe item.cell)
+    ∙ gains-owe setting.rules (cond (cells item.cell) (second - f.at item.cell) 0) (view setting.cells f.universe item.cell) e there.1 in
+    let brought : (y : CellId) → cells y ≡ true → seen_of (gained_at setting.rules second old y) ≡ view setting.cells b.universe y =
+    λ y has. gained-shown setting f cells second y (held_at old y) has (within y has) (shows y) in
+    let change : change_then setting.rules e old ≡ event_change setting.rules e (seen_by_event setting e b.universe) =
+    ap (event_change setting.rules e) (shown-alike cells (λ y. seen_of (gained_at setting.rules second old y)) (view setting.cells b.universe) brought) in
+    elim (test (cells x)) [
+      | inl has ↦
+          (let now : held_at new x ≡ option_map (stand_after setting.rules e old x) (held_at old x) =
+          happens item later owed x ∙ ap (λ c. cond c (option_map (stand_after setting.rules e old x) (held_at old x)) (held_at old x)) has in
+          subst (λ (o : Option Stand). IfSome o (ShowsCell setting g x)) (sym now)
+          (mapped-shown (held_at old x) (stand_after setting.rules e old x) (ShowsCell setting f x) (ShowsCell setting g x) (λ stand is shown. record {
+            second = sym (ap (λ c. cond c second (f.at x)) has);
+            seen =
+                (λ i. seen_after (change i) x (gained setting.rules second stand).seen)
+                ∙ ap (seen_after (event_change setting.rules e (seen_by_event setting e b.universe)) x) (ap (λ o. seen_of (option_map (gained setting.rules second) o)) (sym is) ∙ brought x has)
+                ∙ sym (event-seen setting b.universe e x kept stands has);
+          }) (shows x)))
+      | inr out ↦
+          (let now : held_at new x ≡ held_at old x =
+          happens item later owed x ∙ ap (λ c. cond c (option_map (stand_after setting.rules e old x) (held_at old x)) (held_at old x)) out in
+          let still : view setting.cells b.universe x ≡ view setting.cells f.universe x =
+          view-advanced setting (λ y. cond (cells y) (second - f.at y) 0) f.universe x
+          ∙ ap (λ c. gains setting.rules (cond c (second - f.at x) 0) (view setting.cells f.universe x)) out ∙ none-gained setting.rules (view setting.cells f.universe x) in
+          let same = event-outside setting b.universe e x kept stands out ∙ still in
+          let at_same : g.at x ≡ f.at x = ap (λ c. cond c second (f.at x)) out in
+          subst (λ (o : Option Stand). IfSome o (ShowsCell setting g x)) (sym now)
+          (if_some (held_at old x) (ShowsCell setting f x) (ShowsCell setting g x)
+          (λ stand shown. record { second = shown.second ∙ sym at_same; seen = shown.seen ∙ sym same }) (shows x)))
+    ]
+
+-- what happens to the cells is the event
+pub acts_in : (kept : Rules) (due : Due) (old new : Held) → Happens kept due old new → ActsIn kept due old new
+acts_in kept due old new happens setting f item later rules shows fine owed within =
+    shows_event setting f old new due item later shows fine owed within (subst (λ (r : Rules). Happens r due old new) (sym rules) happens)

@@ -1,19 +1,16 @@
--- The first event that planets owe, found planet by planet.
-use Rattle.std.proofs.Common.{◌≡◌, ℕ, inl, inr, Bool, true, false, cond, List, [], ◌∷◌, ◌++◌, ap, ◌∙◌, sym, refl, subst, Option, Some, None}
-use Rattle.std.specs.Prelude.{nat_le, MatchOption}
-use Rattle.std.specs.BTreeMap.{get}
+-- The first event that cells owe, found cell by cell.
+use Rattle.std.proofs.Common.{◌≡◌, ◌⊎◌, ℕ, ◌<◌, ◌≤◌, inl, inr, Bool, true, false, cond, List, [], ◌∷◌, ◌++◌, arith, ap, ◌∙◌, sym, refl, subst, Option, Some, None}
+use Rattle.std.proofs.lemmas.Bool.Decides.{nat_tests}
+use Rattle.std.specs.Prelude.{nat_le}
 use Rattle.std.specs.List.{AllByRecursion}
 use Rattle.base_ids.proofs.Ordering.{events_ordered}
 use Rattle.base_ids.specs.Order.{key_before}
-use Rattle.base_ids.specs.declared.coord.Coord.{Coord}
 use Rattle.laziness.proofs.Bringing.{test, never}
-use Rattle.planet_cell.specs.declared.building_item.BuildingItem.{BuildingItem}
-use Rattle.happenings.specs.Due.{IsFirstDue, IsFirstOf, IsNothingDue, first_done, key_at, owed_by, sooner_of}
-use Rattle.happenings.specs.Orders.{place_order}
+use Rattle.tick_model.specs.Universe.{Item}
+use Rattle.tick_model.proofs.Keys.{key-one_way}
+use Rattle.happenings.specs.Due.{IsFirstOwed, first_of, key_at, sooner_of}
 use Rattle.happenings.specs.declared.due.Due.{Due}
-use Rattle.happenings.specs.declared.held.Held.{Held}
-use Rattle.happenings.specs.declared.held.PlanetCell.{PlanetCell}
-use Rattle.happenings.proofs.Keys.{found_holds, place_is}
+use Rattle.happenings.specs.declared.queue.Queue.{Queue}
 
 pub all_push : {A : Type 0} (P : A → Type 0) (xs : List A) (y : A) → AllByRecursion P xs → P y → AllByRecursion P (xs ++ y ∷ [])
 all_push P [] y all new = (new, tt)
@@ -29,74 +26,137 @@ no_event d is = absurd (cc is)
 one_event : (a b : Due) → Some a ≡ Some b → a ≡ b
 one_event a b is = cc
 
-done_at : (b : Bool) (moment : ℕ) (at : Coord) (item : BuildingItem) (due : Due) → cond b (Some (record { second = item.second; number = item.number; at = at })) None ≡ Some due → due.at ≡ at
-done_at true moment at item due is = let same = one_event _ due is in sym (ap (λ (d : Due). d.at) same)
-done_at false moment at item due is = no_event due is
+-- it does not come before another one
+abbrev pub NotSooner : Option Due → Due → Type 0
+NotSooner event due = (other : Due) → event ≡ Some other → key_before (key_at other) (key_at due) ≡ false
 
--- an event is owed by the planet at its place
-pub owed_at : (moment : ℕ) (at : Coord) (items : List BuildingItem) (due : Due) → first_done moment at items ≡ Some due → due.at ≡ at
-owed_at moment at [] due is = no_event due is
-owed_at moment at (item ∷ later) due is = done_at (nat_le item.second moment) moment at item due is
-
-abbrev NotSooner : ℕ → Due → Coord × PlanetCell → Type 0
-NotSooner moment due entry = (event : Due) → owed_by moment entry.0 entry.1 ≡ Some event → key_before (key_at event) (key_at due) ≡ false
-
-never_itself : (moment : ℕ) (due : Due) (entry : Coord × PlanetCell) → owed_by moment entry.0 entry.1 ≡ Some due → NotSooner moment due entry
-never_itself moment due entry owes event other =
-    let same : due ≡ event = one_event due event (sym owes ∙ other) in
+never_itself : (event : Option Due) (due : Due) → event ≡ Some due → NotSooner event due
+never_itself event due owes other is =
+    let same : due ≡ other = one_event due other (sym owes ∙ is) in
     subst (λ (d : Due). key_before (key_at d) (key_at due) ≡ false) same (events_ordered.never_itself (key_at due))
 
--- what isn't sooner than the later one of two isn't sooner than the first
-still_first : (moment : ℕ) (due event : Due) (entry : Coord × PlanetCell) → key_before (key_at event) (key_at due) ≡ true → NotSooner moment due entry → NotSooner moment event entry
-still_first moment due event entry sooner first other owes =
-    elim (test (key_before (key_at other) (key_at event))) [
-      | inl before ↦ never (key_before (key_at other) (key_at due)) (events_ordered.transitive (key_at other) (key_at event) (key_at due) before sooner) (first other owes)
+-- what isn't before the later one of two isn't before the first
+still_first : (event : Option Due) (due sooner : Due) → key_before (key_at sooner) (key_at due) ≡ true → NotSooner event due → NotSooner event sooner
+still_first event due sooner before first other owes =
+    elim (test (key_before (key_at other) (key_at sooner))) [
+      | inl earlier ↦ never (key_before (key_at other) (key_at due)) (events_ordered.transitive (key_at other) (key_at sooner) (key_at due) earlier before) (first other owes)
       | inr after ↦ after
     ]
 
-two : (held : Held) (moment : ℕ) (passed : List (Coord × PlanetCell)) (at : Coord) (cell : PlanetCell) (due event : Due) (b : Bool) → get place_order held.planets at ≡ Some cell
-    → owed_by moment at cell ≡ Some event → key_before (key_at event) (key_at due) ≡ b → IsFirstOf held moment passed (Some due)
-    → IsFirstOf held moment (passed ++ (at, cell) ∷ []) (cond b (Some event) (Some due))
-two held moment passed at cell due event true found owes sooner (there, first) =
-    let here : event.at ≡ at = owed_at moment at cell.planet.buildings.items event owes in (
-      (cell, ap (get place_order held.planets) here ∙ found, ap (λ (place : Coord). owed_by moment place cell) here ∙ owes),
-      all_push (NotSooner moment event) passed (at, cell) (all_map (NotSooner moment due) (NotSooner moment event) passed (λ e. still_first moment due event e sooner) first)
-          (never_itself moment event (at, cell) owes),
-    )
-two held moment passed at cell due event false found owes sooner (there, first) = (
-  there,
-  all_push (NotSooner moment due) passed (at, cell) first (λ other is.
-      let same : event ≡ other = one_event event other (sym owes ∙ is) in
-      subst (λ (d : Due). key_before (key_at d) (key_at due) ≡ false) same sooner),
-)
+module _ {A : Type 0} (owed : A → Option Due) (there : A → Type 0) where
+  two : (passed : List A) (cell : A) (due event : Due) (b : Bool) → there cell → owed cell ≡ Some event → key_before (key_at event) (key_at due) ≡ b → IsFirstOwed owed there passed (Some due)
+      → IsFirstOwed owed there (passed ++ cell ∷ []) (cond b (Some event) (Some due))
+  two passed cell due event true is_there owes sooner (found, first) = (
+    (cell, is_there, owes),
+    all_push (λ c. NotSooner (owed c) event) passed cell (all_map (λ c. NotSooner (owed c) due) (λ c. NotSooner (owed c) event) passed (λ c. still_first (owed c) due event sooner) first)
+        (never_itself (owed cell) event owes),
+  )
+  two passed cell due event false is_there owes sooner (found, first) = (
+    found,
+    all_push (λ c. NotSooner (owed c) due) passed cell first (λ other is.
+        let same : event ≡ other = one_event event other (sym owes ∙ is) in
+        subst (λ (d : Due). key_before (key_at d) (key_at due) ≡ false) same sooner),
+  )
 
--- one planet more
-pub first_more : (held : Held) (moment : ℕ) (passed : List (Coord × PlanetCell)) (at : Coord) (cell : PlanetCell) (first owes : Option Due) → get place_order held.planets at ≡ Some cell
-    → owed_by moment at cell ≡ owes → IsFirstOf held moment passed first → IsFirstOf held moment (passed ++ (at, cell) ∷ []) (sooner_of first owes)
-first_more held moment passed at cell None None found is none = all_push (λ e. owed_by moment e.0 e.1 ≡ None) passed (at, cell) none is
-first_more held moment passed at cell None (Some event) found is none =
-    let here : event.at ≡ at = owed_at moment at cell.planet.buildings.items event is in (
-      (cell, ap (get place_order held.planets) here ∙ found, ap (λ (place : Coord). owed_by moment place cell) here ∙ is),
-      all_push (NotSooner moment event) passed (at, cell)
-          (all_map (λ e. owed_by moment e.0 e.1 ≡ None) (NotSooner moment event) passed (λ e nothing other owes. no_event other (sym nothing ∙ owes)) none)
-          (never_itself moment event (at, cell) is),
-    )
-first_more held moment passed at cell (Some due) None found is (there, first) =
-    (there, all_push (NotSooner moment due) passed (at, cell) first (λ other owes. no_event other (sym is ∙ owes)))
-first_more held moment passed at cell (Some due) (Some event) found is before =
-    two held moment passed at cell due event (key_before (key_at event) (key_at due)) found is refl before
+  -- one cell more
+  pub first_more : (passed : List A) (cell : A) (first owes : Option Due) → there cell → owed cell ≡ owes → IsFirstOwed owed there passed first → IsFirstOwed owed there (passed ++ cell ∷ []) (sooner_of first owes)
+  first_more passed cell None None is_there is none = all_push (λ c. owed c ≡ None) passed cell none is
+  first_more passed cell None (Some event) is_there is none = (
+    (cell, is_there, is),
+    all_push (λ c. NotSooner (owed c) event) passed cell (all_map (λ c. owed c ≡ None) (λ c. NotSooner (owed c) event) passed (λ c nothing other owes. no_event other (sym nothing ∙ owes)) none)
+        (never_itself (owed cell) event is),
+  )
+  first_more passed cell (Some due) None is_there is (found, first) =
+      (found, all_push (λ c. NotSooner (owed c) due) passed cell first (λ other owes. no_event other (sym is ∙ owes)))
+  first_more passed cell (Some due) (Some event) is_there is before = two passed cell due event (key_before (key_at event) (key_at due)) is_there is refl before
 
--- all planets were passed
-pub first_all : (held : Held) (moment : ℕ) (first : Option Due) → IsFirstOf held moment held.planets.entries first → MatchOption first (IsNothingDue held moment) (IsFirstDue held moment)
-first_all held moment None none = λ at other found.
-    let entry = found_holds _ (λ e. owed_by moment e.0 e.1 ≡ None) held.planets.entries other none found in
-    subst (λ (place : Coord). owed_by moment place other ≡ None) (sym (place_is at entry.0 entry.1)) entry.2
-first_all held moment (Some due) (there, first) =
+-- The first of two is one of them, and none of them comes before it.
+pub record IsSooner (one other : Option Due) (due : Due) : Type 0 where
+  pub either : (one ≡ Some due) ⊎ (other ≡ Some due)
+  pub first : NotSooner one due
+  pub second : NotSooner other due
+
+sooner-at : (one other : Due) (b : Bool) → key_before (key_at other) (key_at one) ≡ b → (due : Due) → cond b (Some other) (Some one) ≡ Some due → IsSooner (Some one) (Some other) due
+sooner-at one other true before due is =
+    let same : other ≡ due = one_event other due is in
     record {
-      cell = there.0;
-      there = there.1;
-      owed = there.2;
-      first = λ at other event found owes.
-          let entry = found_holds _ (NotSooner moment due) held.planets.entries other first found in
-          subst (λ (place : Coord). NotSooner moment due (place, other)) (sym (place_is at entry.0 entry.1)) entry.2 event owes;
+      either = inr (ap Some same);
+      first = λ d eq. subst (λ e. key_before (key_at e) (key_at due) ≡ false) (one_event one d eq) (subst (λ e. key_before (key_at one) (key_at e) ≡ false) same (key-one_way (key_at other) (key_at one) before));
+      second = λ d eq. subst (λ e. key_before (key_at e) (key_at due) ≡ false) (one_event other d eq) (subst (λ e. key_before (key_at other) (key_at e) ≡ false) same (events_ordered.never_itself (key_at other)));
     }
+sooner-at one other false after due is =
+    let same : one ≡ due = one_event one due is in
+    record {
+      either = inl (ap Some same);
+      first = λ d eq. subst (λ e. key_before (key_at e) (key_at due) ≡ false) (one_event one d eq) (subst (λ e. key_before (key_at one) (key_at e) ≡ false) same (events_ordered.never_itself (key_at one)));
+      second = λ d eq. subst (λ e. key_before (key_at e) (key_at due) ≡ false) (one_event other d eq) (subst (λ e. key_before (key_at other) (key_at e) ≡ false) same after);
+    }
+
+pub is-sooner : (one other : Option Due) (due : Due) → sooner_of one other ≡ Some due → IsSooner one other due
+is-sooner None None due is = no_event due is
+is-sooner None (Some other) due is =
+    record { either = inr is; first = λ d eq. no_event d eq; second = never_itself (Some other) due is }
+is-sooner (Some one) None due is =
+    record { either = inl is; first = never_itself (Some one) due is; second = λ d eq. no_event d eq }
+is-sooner (Some one) (Some other) due is = sooner-at one other (key_before (key_at other) (key_at one)) refl due is
+
+-- and if there is none, both are missing
+pub neither-sooner : (one other : Option Due) → sooner_of one other ≡ None → (one ≡ None) × (other ≡ None)
+neither-sooner None None is = (refl, refl)
+neither-sooner None (Some other) is = no_event other (sym is)
+neither-sooner (Some one) None is = no_event one (sym is)
+neither-sooner (Some one) (Some other) is =
+    elim (key_before (key_at other) (key_at one)) as (λ b. cond b (Some other) (Some one) ≡ None → (Some one ≡ None) × (Some other ≡ None)) [
+      | true ↦ λ none. no_event other (sym none)
+      | false ↦ λ none. no_event one (sym none)
+    ] is
+
+-- What the first item of a queue is.
+
+pub record IsFirstItem (moment : ℕ) (queue : Queue) (items : List Item) (due : Due) : Type 0 where
+  pub item : Item
+  pub later : List Item
+  pub items_are : items ≡ item ∷ later
+  pub second : item.second ≡ due.second
+  pub number : item.number ≡ due.number
+  pub queue_is : due.queue ≡ queue
+  pub due_by : due.second ≤ moment
+
+first-item-at : (moment : ℕ) (queue : Queue) (item : Item) (later : List Item) (b : Bool) (due : Due) → nat_le item.second moment ≡ b
+    → cond b (Some (record { second = item.second; number = item.number; queue = queue })) None ≡ Some due → IsFirstItem moment queue (item ∷ later) due
+first-item-at moment queue item later true due test is =
+    let found : Due = record { second = item.second; number = item.number; queue = queue } in
+    let same : found ≡ due = one_event found due is in
+    let second : item.second ≡ due.second = ap (λ (d : Due). d.second) same in
+    let by : item.second ≤ moment = grind (arith, nat_tests) in
+    record {
+      item = item;
+      later = later;
+      items_are = refl;
+      second = second;
+      number = ap (λ (d : Due). d.number) same;
+      queue_is = ap (λ (d : Due). d.queue) (sym same);
+      due_by = omega (arith, second, by);
+    }
+first-item-at moment queue item later false due test is = no_event due is
+
+pub first-item : (moment : ℕ) (queue : Queue) (items : List Item) (due : Due) → first_of moment queue items ≡ Some due → IsFirstItem moment queue items due
+first-item moment queue [] due is = no_event due is
+first-item moment queue (item ∷ later) due is = first-item-at moment queue item later (nat_le item.second moment) due refl is
+
+pub not-first : (moment : ℕ) (queue : Queue) (items : List Item) (item : Item) (later : List Item) → items ≡ item ∷ later → first_of moment queue items ≡ None → moment < item.second
+not-first moment queue items item later is none =
+    let due : Due = record { second = item.second; number = item.number; queue = queue } in
+    let here : cond (nat_le item.second moment) (Some due) None ≡ None = ap (first_of moment queue) (sym is) ∙ none in
+    not-due (nat_le item.second moment) moment item due refl here
+  where
+    not-due : (b : Bool) (moment : ℕ) (item : Item) (due : Due) → nat_le item.second moment ≡ b → cond b (Some due) None ≡ None → moment < item.second
+    not-due true moment item due test some = no_event due (sym some)
+    not-due false moment item due test nothing = grind (arith, nat_tests)
+
+-- an item that is due is the first that its queue owes
+pub owes-first : (moment : ℕ) (queue : Queue) (items : List Item) (item : Item) (later : List Item) → items ≡ item ∷ later → item.second ≤ moment
+    → first_of moment queue items ≡ Some (record { second = item.second; number = item.number; queue = queue })
+owes-first moment queue items item later is by =
+    let test : nat_le item.second moment ≡ true = grind (arith, nat_tests) in
+    ap (first_of moment queue) is ∙ (λ i. cond (test i) (Some (record { second = item.second; number = item.number; queue = queue })) None)

@@ -1,18 +1,21 @@
 -- Cells that gain until a moment, and the universe that they show.
-use Rattle.std.proofs.Common.{◌≡◌, ℕ, ◌-◌, ◌≤◌, zero, suc, cond, true, refl, ap, ◌∙◌, sym, subst, Option, Some, None}
+use Rattle.std.proofs.Math.Path.{fun_ext}
+use Rattle.account_cell.specs.Account.{AreSame as AreSameAccounts, account_queue, research_item, research_of}
+use Rattle.account_cell.specs.declared.account.Account.{Account}
+use Rattle.std.proofs.Common.{[], ◌≡◌, ℕ, ◌-◌, ◌≤◌, zero, suc, cond, true, refl, ap, ◌∙◌, sym, subst, Option, Some, None}
 use Rattle.std.specs.Prelude.{IfSome, IsSome, is_some, option_map}
 use Rattle.std.specs.BTreeMap.{get}
 use Rattle.base_ids.specs.declared.cell_id.CellId.{CellId}
 use Rattle.base_ids.specs.declared.cell_id.CellId.TheVariants.{Planet as PlanetId}
 use Rattle.base_ids.specs.declared.coord.Coord.{Coord}
 use Rattle.laziness.specs.Stamps.{Stamps, bring_to}
-use Rattle.planet_cell.specs.Planet.{AreSame, fields_of, item_of, items_of}
+use Rattle.planet_cell.specs.Planet.{AreSame, batch_item_of, batches_of, buildings_of, fields_of, item_of, queue_of}
 use Rattle.planet_cell.specs.declared.planet.Planet.{Planet}
 use Rattle.rates.specs.Times.{times}
 use Rattle.std.proofs.Common.{map}
 use Rattle.tick_model.specs.Game.{game}
 use Rattle.tick_model.specs.Production.{cell_second, gains, planet_second}
-use Rattle.tick_model.specs.Universe.{of_planet, Setting}
+use Rattle.tick_model.specs.Universe.{of_account, of_planet, Buildings, Researches, Yard, QueueClass, Setting}
 use Rattle.tick_model.specs.declared.rules.Rules.{Rules}
 use Rattle.tick_model.proofs.Gains.{view-advanced}
 use Rattle.happenings.specs.Gaining.{AreBehind, Gains, GainsIn, gained, gained_at}
@@ -26,7 +29,7 @@ use Rattle.happenings.proofs.Copying.{picks_all}
 use Rattle.happenings.proofs.Standing.{planet_seen, seen-gains}
 
 -- accounts gain nothing
-account-gains : (rules : Rules) (n : ℕ) (cell : AccountCell) → gains rules n (account_stand cell).seen ≡ (account_stand cell).seen
+pub account-gains : (rules : Rules) (n : ℕ) (cell : AccountCell) → gains rules n (account_stand cell).seen ≡ (account_stand cell).seen
 unfolding times
 account-gains rules zero cell = refl
 account-gains rules (suc n) cell = ap (cell_second rules) (account-gains rules n cell)
@@ -35,17 +38,54 @@ pub account_gained : (rules : Rules) (moment : ℕ) (cell copy : AccountCell) �
     → account_stand copy ≡ gained rules moment (account_stand cell)
 account_gained rules moment cell copy is = is ∙ (λ i. record { second = moment; seen = sym (account-gains rules (moment - cell.second) cell) i })
 
+-- what is seen of a planet by what it has of its own and its queues
+pub queue-same : (one other : Planet) → buildings_of one ≡ buildings_of other → batches_of one ≡ batches_of other → (class : QueueClass) → queue_of one class ≡ queue_of other class
+queue-same one other buildings yard Buildings = buildings
+queue-same one other buildings yard Researches = refl
+queue-same one other buildings yard Yard = yard
+
+-- a planet that gained
+pub planet_gained_here : (rules : Rules) (second seconds : ℕ) (old new : PlanetCell) → new.second ≡ second → seconds ≡ second - old.second
+    → fields_of new.planet ≡ times seconds (planet_second rules.speed) (fields_of old.planet) → buildings_of new.planet ≡ buildings_of old.planet → batches_of new.planet ≡ batches_of old.planet
+    → planet_stand new ≡ gained rules second (planet_stand old)
+planet_gained_here rules second seconds old new stamp span fields buildings yard =
+    let queue = fun_ext (queue-same new.planet old.planet buildings yard) in
+    let seen : planet_seen (of_planet (fields_of new.planet)) (queue_of new.planet) ≡ gains rules (second - old.second) (planet_stand old).seen =
+    (λ i. planet_seen (of_planet (fields i)) (queue i))
+    ∙ (λ i. planet_seen (of_planet (times (span i) (planet_second rules.speed) (fields_of old.planet))) (queue_of old.planet))
+    ∙ sym (seen-gains rules (second - old.second) (fields_of old.planet) (queue_of old.planet)) in
+    (λ i. record { second = stamp i; seen = seen i })
+
+-- the same planet in other memory stands the same
+pub same_stand : (one other : PlanetCell) → one.second ≡ other.second → AreSame one.planet other.planet → planet_stand one ≡ planet_stand other
+same_stand one other second same =
+    let buildings : buildings_of one.planet ≡ buildings_of other.planet = (λ i. map (item_of (same.at i)) (same.buildings i)) in
+    let yard : batches_of one.planet ≡ batches_of other.planet = (λ i. map (batch_item_of (same.at i)) (same.yard i)) in
+    let queue = fun_ext (queue-same one.planet other.planet buildings yard) in
+    (λ i. record { second = second i; seen = planet_seen (of_planet (same.fields i)) (queue i) })
+
+-- and so does the same account
+pub same_account : (one other : AccountCell) → one.second ≡ other.second → AreSameAccounts one.account other.account → account_stand one ≡ account_stand other
+same_account one other second same =
+    let research : research_of one.account ≡ research_of other.account = (λ i. map (research_item (same.player i)) (same.research i)) in
+    let queue = fun_ext (account-queue-same one.account other.account research) in
+    (λ i. record {
+      second = second i;
+      seen = record { own = of_account (record { techs = same.techs i }); queue = queue i; fleets = []; planets = same.planets i; units = same.units i };
+    })
+  where
+    account-queue-same : (one other : Account) → research_of one ≡ research_of other → (class : QueueClass) → account_queue one class ≡ account_queue other class
+    account-queue-same one other research Buildings = refl
+    account-queue-same one other research Researches = research
+    account-queue-same one other research Yard = refl
+
 -- a planet that was copied and then gained
 pub planet_gained : (rules : Rules) (moment seconds : ℕ) (cell new : PlanetCell) (copy : Planet) → new.second ≡ moment → seconds ≡ moment - cell.second → AreSame cell.planet copy
-    → fields_of new.planet ≡ times seconds (planet_second rules.speed) (fields_of copy) → items_of new.planet ≡ items_of copy
+    → fields_of new.planet ≡ times seconds (planet_second rules.speed) (fields_of copy) → buildings_of new.planet ≡ buildings_of copy → batches_of new.planet ≡ batches_of copy
     → planet_stand new ≡ gained rules moment (planet_stand cell)
-planet_gained rules moment seconds cell new copy stamp span same fields items =
-    let all : items_of copy ≡ items_of cell.planet = (λ i. map (item_of (sym same.at i)) (sym same.items i)) in
-    let seen : planet_seen (of_planet (fields_of new.planet)) (items_of new.planet) ≡ gains rules (moment - cell.second) (planet_stand cell).seen =
-    (λ i. planet_seen (of_planet (fields i)) ((items ∙ all) i))
-    ∙ (λ i. planet_seen (of_planet (times (span i) (planet_second rules.speed) (sym same.fields i))) (items_of cell.planet))
-    ∙ sym (seen-gains rules (moment - cell.second) (fields_of cell.planet) (items_of cell.planet)) in
-    (λ i. record { second = stamp i; seen = seen i })
+planet_gained rules moment seconds cell new copy stamp span same fields buildings yard =
+    let copied : PlanetCell = record { second = cell.second; planet = copy } in
+    planet_gained_here rules moment seconds copied new stamp span fields buildings yard ∙ ap (gained rules moment) (sym (same_stand cell copied refl same))
 
 -- none of the planets that are held stands later than the moment
 pub planet_behind : (moment : ℕ) (held : Held) (at : Coord) (cell : PlanetCell) → AreBehind moment held → get place_order held.planets at ≡ Some cell → cell.second ≤ moment

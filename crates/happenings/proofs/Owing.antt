@@ -1,171 +1,309 @@
--- What cells that are held owe in the universe that they show.
-use Rattle.std.proofs.Common.{◌≡◌, ℕ, ◌≤◌, Bool, true, false, cond, List, [], ◌∷◌, map, refl, ap, ◌∙◌, sym, subst, Option, Some, None}
-use Rattle.std.specs.Prelude.{IfSome, MatchOption, is_some, nat_le, option_map}
-use Rattle.std.specs.BTreeMap.{get}
-use Rattle.std.proofs.lemmas.Bool.Decides.{nat_tests}
-use Rattle.std.proofs.Common.{arith}
-use Rattle.base_ids.specs.Order.{EventKey, key_before}
-use Rattle.base_ids.specs.declared.cell_id.CellId.{CellId}
-use Rattle.base_ids.specs.declared.cell_id.CellId.TheVariants.{Account, Planet}
+-- What cells that are held owe, and what they owe in the universe that they show.
+use Rattle.std.proofs.Common.{◌≡◌, ◌⊎◌, ℕ, ◌<◌, ◌≤◌, inl, inr, Bool, true, false, List, [], ◌∷◌, refl, ap, ◌∙◌, sym, subst, arith, Option, Some, None}
+use Rattle.std.specs.Prelude.{MatchOption, option_map}
+use Rattle.std.specs.BTreeMap.{get, is_at}
+use Rattle.std.specs.List.{AllByRecursion}
+use Rattle.account_cell.specs.Account.{research_of}
+use Rattle.planet_cell.specs.Planet.{batches_of, buildings_of}
+use Rattle.base_ids.specs.Order.{key_before}
 use Rattle.base_ids.specs.declared.coord.Coord.{Coord}
 use Rattle.base_ids.specs.declared.player.Player.{Player}
 use Rattle.laziness.proofs.Bringing.{never}
 use Rattle.laziness.specs.Laws.{NoneDue}
 use Rattle.laziness.specs.Stamps.{Stamps}
-use Rattle.planet_cell.specs.Planet.{item_of, items_of}
-use Rattle.planet_cell.specs.declared.building_item.BuildingItem.{BuildingItem}
-use Rattle.tick_model.specs.Events.{built, Owes, key_of}
+use Rattle.tick_model.specs.Events.{item_due, Owes, key_of, step_of}
 use Rattle.tick_model.specs.Game.{game}
-use Rattle.tick_model.specs.Universe.{Buildings, Item, Setting}
-use Rattle.tick_model.specs.Views.{View, queue, view}
-use Rattle.tick_model.specs.declared.rules.Rules.{Rules}
-use Rattle.happenings.specs.Applying.{Happens}
-use Rattle.happenings.specs.Coming.{ActsIn, FindsFirst, IsFirstEvent}
-use Rattle.happenings.specs.Due.{IsFirstDue, IsNothingDue, first_done, key_at}
-use Rattle.happenings.specs.Held.{IsNamed, Shows, ShowsCell, account_stand, holds, planet_stand}
+use Rattle.tick_model.specs.Universe.{Buildings as BuildingsClass, Researches as ResearchClass, Yard as YardClass, Item, QueueClass, Setting}
+use Rattle.tick_model.specs.Views.{View, view}
+use Rattle.tick_model.proofs.Keys.{key-not_before}
+use Rattle.happenings.specs.Coming.{FindsFirst, IsFirstEvent}
+use Rattle.happenings.specs.Due.{IsFirstDue, IsFirstOfThese, IsFirstOwed, IsNoneOfThese, IsNothingDue, first_of, is_of_planet, is_research, key_at, owed_by_account, owed_by_planet, sooner_of}
+use Rattle.happenings.specs.Held.{Shows, account_stand, holds, planet_stand}
 use Rattle.happenings.specs.Orders.{place_order, player_order}
+use Rattle.happenings.specs.Queues.{class_of, event_of, items_held, seen_held, seen_of}
 use Rattle.happenings.specs.declared.due.Due.{Due}
 use Rattle.happenings.specs.declared.held.AccountCell.{AccountCell}
 use Rattle.happenings.specs.declared.held.Held.{Held}
 use Rattle.happenings.specs.declared.held.PlanetCell.{PlanetCell}
-use Rattle.happenings.proofs.Acting.{named_planet, shows_event, shows_planet}
-use Rattle.happenings.proofs.Standing.{queue-is}
+use Rattle.happenings.specs.declared.queue.Queue.{Queue}
+use Rattle.happenings.specs.declared.queue.Queue.TheVariants.{Buildings, Research, Yard}
+use Rattle.happenings.proofs.Acting.{held-seen, owed-there, queue-inside}
+use Rattle.happenings.proofs.Firsts.{IsFirstItem, IsSooner, first-item, is-sooner, neither-sooner, not-first, owes-first}
+use Rattle.happenings.proofs.Keys.{found_holds, place_is, player_at_is}
+use Rattle.happenings.proofs.Standing.{queue-held}
 
--- an event is the building that runs on a planet that is held
-pub record IsOwed (held : Held) (item : Item) (later : List Item) : Type 0 where
-  pub at : Coord
-  pub cell : PlanetCell
-  pub there : get place_order held.planets at ≡ Some cell
-  pub place : item.cell ≡ Planet at
-  pub items : items_of cell.planet ≡ item ∷ later
+-- What the universe has to come stands in a queue that is held.
+pub record StandsHere (held : Held) (class : QueueClass) (item : Item) (later : List Item) : Type 0 where
+  pub queue : Queue
+  pub sort : class_of queue ≡ class
+  pub items : items_held held queue ≡ item ∷ later
 
-no-account : {A : Type 0} (setting : Setting) (f : Stamps (game setting)) (player : Player) (item : Item) (later : List Item) (cell : Option AccountCell)
-    → IfSome (option_map account_stand cell) (ShowsCell setting f (Account player)) → is_some (option_map account_stand cell) ≡ true
-    → Owes (view setting.cells f.universe (Account player)) (built item later) → A
-no-account setting f player item later None shown held owes = never false held refl
-no-account setting f player item later (Some cell) shown held owes =
-    let none : [] ≡ item ∷ later = ap (λ (v : View). queue Buildings v.items) shown.seen ∙ owes in
-    absurd (cc none)
-
-planet-owes : (setting : Setting) (held : Held) (f : Stamps (game setting)) (at : Coord) (item : Item) (later : List Item) (cell : Option PlanetCell) → item.cell ≡ Planet at
-    → get place_order held.planets at ≡ cell → IfSome (option_map planet_stand cell) (ShowsCell setting f (Planet at)) → is_some (option_map planet_stand cell) ≡ true
-    → Owes (view setting.cells f.universe (Planet at)) (built item later) → IsOwed held item later
-planet-owes setting held f at item later None place there shown here owes = never false here refl
-planet-owes setting held f at item later (Some cell) place there shown here owes = record {
-  at = at;
-  cell = cell;
-  there = there;
-  place = place;
-  items = sym (queue-is cell.planet.at cell.planet.buildings.items) ∙ ap (λ (v : View). queue Buildings v.items) shown.seen ∙ owes;
-}
-
-owes-at : (setting : Setting) (held : Held) (f : Stamps (game setting)) (item : Item) (later : List Item) (cell : CellId) → item.cell ≡ cell → Shows setting held f
-    → holds held cell ≡ true → Owes (view setting.cells f.universe cell) (built item later) → IsOwed held item later
-owes-at setting held f item later (Account player) place shows here owes =
-    no-account setting f player item later (get player_order held.accounts player) (shows (Account player)) here owes
-owes-at setting held f item later (Planet at) place shows here owes =
-    planet-owes setting held f at item later (get place_order held.planets at) place refl (shows (Planet at)) here owes
-
--- so is each event that a cell owes which is held
-pub held-owes : (setting : Setting) (held : Held) (f : Stamps (game setting)) (item : Item) (later : List Item) → Shows setting held f → holds held item.cell ≡ true
-    → Owes (view setting.cells f.universe item.cell) (built item later) → IsOwed held item later
-held-owes setting held f item later shows here owes = owes-at setting held f item later item.cell refl shows here owes
-
--- what runs on a planet is owed
-abbrev due_of : Coord → Item → Due
-due_of at item = record { second = item.second; number = item.number; at = at }
-
-nat-le : (m n : ℕ) → m ≤ n → nat_le m n ≡ true
-nat-le m n le = grind (arith, nat_tests)
-
-first-owed : (moment : ℕ) (at place : Coord) (items : List BuildingItem) (item : Item) (later : List Item) → map (item_of place) items ≡ item ∷ later → item.second ≤ moment
-    → first_done moment at items ≡ Some (due_of at item)
-first-owed moment at place [] item later is in_time = absurd (cc is)
-first-owed moment at place (first ∷ rest) item later is in_time =
-    let same : item_of place first ≡ item = cc in
-    let test : nat_le first.second moment ≡ true = ap (λ (i : Item). nat_le i.second moment) same ∙ nat-le item.second moment in_time in
-    (λ i. cond (test i) (Some (due_of at (item_of place first))) None) ∙ ap (λ (i : Item). Some (due_of at i)) same
-
--- a planet that owes an event builds it
-record Builds (moment : ℕ) (place : Coord) (items : List BuildingItem) (due : Due) : Type 0 where
-  item : Item
-  later : List Item
-  items_are : map (item_of place) items ≡ item ∷ later
-  stands : item.cell ≡ Planet place
-  key : key_of (built item later) ≡ key_at due
-  in_time : item.second ≤ moment
-
-from-test : (b : Bool) (moment : ℕ) (at place : Coord) (first : BuildingItem) (rest : List BuildingItem) (due : Due) → nat_le first.second moment ≡ b
-    → cond b (Some (due_of at (item_of place first))) None ≡ Some due → Builds moment place (first ∷ rest) due
-from-test false moment at place first rest due test is = absurd (cc is)
-from-test true moment at place first rest due test is =
-    let same : due_of at (item_of place first) ≡ due = cc in
+queue-there : (setting : Setting) (held : Held) (f : Stamps (game setting)) (class : QueueClass) (item : Item) (later : List Item) → Shows setting held f → holds held item.cell ≡ true
+    → Owes (view setting.cells f.universe item.cell) (item_due class item later) → StandsHere held class item later
+queue-there setting held f class item later shows inside owes =
+    let here : (seen_held held item.cell).queue class ≡ item ∷ later = ap (λ (v : View). v.queue class) (held-seen setting held f item.cell shows inside) ∙ owes in
+    let found = queue-held held item.cell class item later here in
     record {
-      item = item_of place first;
-      later = map (item_of place) rest;
-      items_are = refl;
-      stands = refl;
-      key = ap key_at same;
-      in_time = grind (arith, nat_tests);
+      queue = found.0;
+      sort = found.2;
+      items = (λ i. (seen_held held (found.1 i)).queue (found.2 i)) ∙ here;
     }
 
-builds-first : (moment : ℕ) (at place : Coord) (items : List BuildingItem) (due : Due) → first_done moment at items ≡ Some due → Builds moment place items due
-builds-first moment at place [] due is = absurd (cc is)
-builds-first moment at place (first ∷ rest) due is = from-test (nat_le first.second moment) moment at place first rest due refl is
-
--- no planet owes an event, so nothing is due
+-- nothing is due in the queues that are held, so no event is due
 none-due : (setting : Setting) (held : Held) (f : Stamps (game setting)) (moment : ℕ) → Shows setting held f → IsNothingDue held moment
     → NoneDue (game setting) (holds held) moment f.universe
-none-due setting held f moment shows nothing (built item later) stands inside due =
-    let owed = held-owes setting held f item later shows inside stands in
-    let first = first-owed moment owed.at owed.cell.planet.at owed.cell.planet.buildings.items item later owed.items due in
-    let none : None ≡ Some (due_of owed.at item) = sym (nothing owed.at owed.cell owed.there) ∙ first in
-    absurd (cc none)
+none-due setting held f moment shows nothing (item_due class item later) stands inside due =
+    let there = queue-there setting held f class item later shows inside stands in
+    let not_yet : moment < item.second = nothing there.queue item later refl there.items in
+    omega (arith, due, not_yet)
 
-first-event : (setting : Setting) (held : Held) (f : Stamps (game setting)) (moment : ℕ) (due : Due) → Shows setting held f → IsNamed held → IsFirstDue held moment due
+key-is : (queue : Queue) (item : Item) (later : List Item) (due : Due) → due.queue ≡ queue → item.second ≡ due.second → item.number ≡ due.number → key_of (event_of queue item later) ≡ key_at due
+key-is queue item later due queues second number = λ i. record { second = second i; number = number i; step = step_of (class_of (sym queues i)) }
+
+first-event : (setting : Setting) (held : Held) (f : Stamps (game setting)) (moment : ℕ) (due : Due) → Shows setting held f → IsFirstDue held moment due
     → IsFirstEvent setting held moment f due
-first-event setting held f moment due shows named is =
-    let cell = is.cell in
-    let at = due.at in
-    let builds = builds-first moment at cell.planet.at cell.planet.buildings.items due is.owed in
-    let place : builds.item.cell ≡ Planet at = builds.stands ∙ ap Planet (named_planet held at cell named is.there) in
-    let shown = shows_planet setting held f at cell shows is.there in
+first-event setting held f moment due shows is =
+    let there = owed-there setting held f due.queue is.item is.later shows is.owed in
+    let key = key-is due.queue is.item is.later due refl is.second is.number in
+    let second = is.second in
+    let by = is.due_by in
     record {
-      item = builds.item;
-      later = builds.later;
+      item = is.item;
+      later = is.later;
+      owed = is.owed;
+      second = is.second;
       next = record {
-        stands = ap (λ x. queue Buildings (view setting.cells f.universe x).items) place ∙ ap (λ (v : View). queue Buildings v.items) (sym shown.seen)
-            ∙ queue-is cell.planet.at cell.planet.buildings.items ∙ builds.items_are;
-        inside = ap (holds held) place ∙ ap (λ c. is_some (option_map planet_stand c)) is.there;
-        due = builds.in_time;
+        stands = there.1;
+        inside = ap (holds held) there.0 ∙ queue-inside held due.queue is.item is.later is.owed;
+        due = omega (arith, second, by);
         first = elim [
-          | built item later ↦ λ stands inside in_time before.
-              let owed = held-owes setting held f item later shows inside stands in
-              let first = first-owed moment owed.at owed.cell.planet.at owed.cell.planet.buildings.items item later owed.items in_time in
-              let later_than : key_before (key_at (due_of owed.at item)) (key_at due) ≡ false = is.first owed.at owed.cell (due_of owed.at item) owed.there first in
-              never (key_before (key_at (due_of owed.at item)) (key_at due)) (ap (key_before (key_of (built item later))) (sym builds.key) ∙ before) later_than
+          | item_due class item later ↦ λ stands inside in_time before.
+              let other = queue-there setting held f class item later shows inside stands in
+              let after = is.first other.queue item later refl other.items in_time in
+              never (key_before (key_of (item_due class item later)) (key_at due)) (ap (key_before (key_of (item_due class item later))) (sym key) ∙ before)
+              (ap (λ c. key_before (key_of (item_due c item later)) (key_at due)) (sym other.sort) ∙ after)
         ];
       };
-      place = place;
-      second = ap (λ (k : EventKey). k.second) builds.key;
     }
 
 -- the first event is found
 pub finds_first : (held : Held) (moment : ℕ) (found : Option Due) → MatchOption found (IsNothingDue held moment) (IsFirstDue held moment) → FindsFirst held moment found
 finds_first held moment None nothing setting f shows named = none-due setting held f moment shows nothing
-finds_first held moment (Some due) first setting f shows named = first-event setting held f moment due shows named first
+finds_first held moment (Some due) first setting f shows named = first-event setting held f moment due shows first
 
-planet-builds : (setting : Setting) (held : Held) (f : Stamps (game setting)) (at : Coord) (cell : PlanetCell) (item : Item) (later : List Item) → Shows setting held f
-    → get place_order held.planets at ≡ Some cell → item.cell ≡ Planet at → Owes (view setting.cells f.universe item.cell) (built item later) → items_of cell.planet ≡ item ∷ later
-planet-builds setting held f at cell item later shows there place owes =
-    let shown = shows_planet setting held f at cell shows there in
-    sym (queue-is cell.planet.at cell.planet.buildings.items) ∙ ap (λ (v : View). queue Buildings v.items) shown.seen
-    ∙ ap (λ x. queue Buildings (view setting.cells f.universe x).items) (sym place) ∙ owes
+-- What isn't before the first of two isn't before either.
+abbrev pub NoneSooner : Option Due → Due → Type 0
+NoneSooner owed due = (other : Due) → owed ≡ Some other → key_before (key_at other) (key_at due) ≡ false
 
--- what happens to the cells is the event
-pub acts_in : (kept : Rules) (due : Due) (old new : Held) (cell : PlanetCell) → IsNamed old → get place_order old.planets due.at ≡ Some cell → Happens kept.speed due old new
-    → ActsIn kept due old new
-acts_in kept due old new cell named there happens setting f item later rules shows owes place second =
-    let items = planet-builds setting old f due.at cell item later shows there place owes in
-    let turned = subst (λ (r : Rules). Happens r.speed due old new) (sym rules) happens in
-    shows_event setting f old new due cell item later shows named there items place second turned
+none-sooner : (one other found : Option Due) (due : Due) → sooner_of one other ≡ found → NoneSooner found due → NoneSooner one due × NoneSooner other due
+none-sooner one other None due is first =
+    let neither = neither-sooner one other is in (
+      (λ d here. let no : None ≡ Some d = sym neither.0 ∙ here in absurd (cc no)),
+      (λ d here. let no : None ≡ Some d = sym neither.1 ∙ here in absurd (cc no)),
+    )
+none-sooner one other (Some found) due is first =
+    let both = is-sooner one other found is in
+    let after = first found refl in (
+      (λ d here. key-not_before (key_at d) (key_at found) (key_at due) (both.first d here) after),
+      (λ d here. key-not_before (key_at d) (key_at found) (key_at due) (both.second d here) after),
+    )
+
+-- the first item of a queue that is due isn't before what isn't before the first that its cell owes
+item-after : (moment : ℕ) (queue : Queue) (items : List Item) (item : Item) (later : List Item) (due : Due) → NoneSooner (first_of moment queue items) due → items ≡ item ∷ later → item.second ≤ moment
+    → key_before (key_of (event_of queue item later)) (key_at due) ≡ false
+item-after moment queue items item later due first is by =
+    first (record { second = item.second; number = item.number; queue = queue }) (owes-first moment queue items item later is by)
+
+no-queue : {A : Type 0} (item : Item) (later : List Item) → [] ≡ item ∷ later → A
+no-queue item later is = absurd (cc is)
+
+-- the research of an account that may be held
+abbrev items_held_by : Option AccountCell → List Item
+items_held_by o = (seen_of (option_map account_stand o)).queue ResearchClass
+
+-- an item that stands in a queue that is held stands in that of an entry
+record InPlanet (held : Held) (P : Coord × PlanetCell → Type 0) (at : Coord) (items : PlanetCell → List Item) (item : Item) (later : List Item) : Type 0 where
+  cell : PlanetCell
+  holds : P (at, cell)
+  queue : items cell ≡ item ∷ later
+
+in-planet : (held : Held) (P : Coord × PlanetCell → Type 0) (at : Coord) (class : QueueClass) (o : Option PlanetCell) (item : Item) (later : List Item) → AllByRecursion P held.planets.entries
+    → get place_order held.planets at ≡ o → (seen_of (option_map planet_stand o)).queue class ≡ item ∷ later → InPlanet held P at (λ cell. (planet_stand cell).seen.queue class) item later
+in-planet held P at class None item later all found is = no-queue item later is
+in-planet held P at class (Some cell) item later all found is =
+    let entry = found_holds (is_at (place_order at)) P held.planets.entries cell all found in
+    record { cell = cell; holds = subst (λ k. P (k, cell)) (sym (place_is at entry.0 entry.1)) entry.2; queue = is }
+
+record InAccount (held : Held) (P : Player × AccountCell → Type 0) (player : Player) (item : Item) (later : List Item) : Type 0 where
+  cell : AccountCell
+  holds : P (player, cell)
+  queue : research_of cell.account ≡ item ∷ later
+
+in-account : (held : Held) (P : Player × AccountCell → Type 0) (player : Player) (o : Option AccountCell) (item : Item) (later : List Item) → AllByRecursion P held.accounts.entries
+    → get player_order held.accounts player ≡ o → items_held_by o ≡ item ∷ later → InAccount held P player item later
+in-account held P player None item later all found is = no-queue item later is
+in-account held P player (Some cell) item later all found is =
+    let entry = found_holds (is_at (player_order player)) P held.accounts.entries cell all found in
+    record { cell = cell; holds = subst (λ k. P (k, cell)) (sym (player_at_is player entry.0 entry.1)) entry.2; queue = is }
+
+-- what an entry owes
+abbrev pub planet_owes : ℕ → Coord × PlanetCell → Option Due
+planet_owes moment entry = owed_by_planet moment entry.0 entry.1
+
+abbrev pub planet_there : Held → Coord × PlanetCell → Type 0
+planet_there held entry = get place_order held.planets entry.0 ≡ Some entry.1
+
+abbrev pub account_owes : ℕ → Player × AccountCell → Option Due
+account_owes moment entry = owed_by_account moment entry.0 entry.1
+
+abbrev pub account_there : Held → Player × AccountCell → Type 0
+account_there held entry = get player_order held.accounts entry.0 ≡ Some entry.1
+
+no-planet-due : (held : Held) (moment : ℕ) → AllByRecursion (λ e. planet_owes moment e ≡ None) held.planets.entries → IsNoneOfThese is_of_planet held moment
+no-planet-due held moment all (Buildings at) item later these is =
+    let here = in-planet held (λ e. planet_owes moment e ≡ None) at BuildingsClass (get place_order held.planets at) item later all refl is in
+    let none = neither-sooner (first_of moment (Buildings at) (buildings_of here.cell.planet)) (first_of moment (Yard at) (batches_of here.cell.planet)) here.holds in
+    not-first moment (Buildings at) (buildings_of here.cell.planet) item later here.queue none.0
+no-planet-due held moment all (Research player) item later these is = never false these refl
+no-planet-due held moment all (Yard at) item later these is =
+    let here = in-planet held (λ e. planet_owes moment e ≡ None) at YardClass (get place_order held.planets at) item later all refl is in
+    let none = neither-sooner (first_of moment (Buildings at) (buildings_of here.cell.planet)) (first_of moment (Yard at) (batches_of here.cell.planet)) here.holds in
+    not-first moment (Yard at) (batches_of here.cell.planet) item later here.queue none.1
+
+-- the first of what planets owe is the first of their queues
+pub planets_first : (held : Held) (moment : ℕ) (found : Option Due) → IsFirstOwed (planet_owes moment) (planet_there held) held.planets.entries found
+    → MatchOption found (IsNoneOfThese is_of_planet held moment) (IsFirstOfThese is_of_planet held moment)
+planets_first held moment None all = no-planet-due held moment all
+planets_first held moment (Some due) (found, all) =
+    planet-first held moment due found.0 found.1 all (is-sooner (first_of moment (Buildings found.0.0) (buildings_of found.0.1.planet)) (first_of moment (Yard found.0.0) (batches_of found.0.1.planet)) due found.2).either
+  where
+    planet-after : (held : Held) (moment : ℕ) (due : Due) → AllByRecursion (λ e. NoneSooner (planet_owes moment e) due) held.planets.entries
+        → (queue : Queue) (other : Item) (more : List Item) → is_of_planet queue ≡ true → items_held held queue ≡ other ∷ more → other.second ≤ moment
+        → key_before (key_of (event_of queue other more)) (key_at due) ≡ false
+    planet-after held moment due all (Buildings at) item later these is by =
+        let here = in-planet held (λ e. NoneSooner (planet_owes moment e) due) at BuildingsClass (get place_order held.planets at) item later all refl is in
+        let first = none-sooner (first_of moment (Buildings at) (buildings_of here.cell.planet)) (first_of moment (Yard at) (batches_of here.cell.planet)) (planet_owes moment (at, here.cell)) due refl here.holds in
+        item-after moment (Buildings at) (buildings_of here.cell.planet) item later due first.0 here.queue by
+    planet-after held moment due all (Research player) item later these is by = never false these refl
+    planet-after held moment due all (Yard at) item later these is by =
+        let here = in-planet held (λ e. NoneSooner (planet_owes moment e) due) at YardClass (get place_order held.planets at) item later all refl is in
+        let first = none-sooner (first_of moment (Buildings at) (buildings_of here.cell.planet)) (first_of moment (Yard at) (batches_of here.cell.planet)) (planet_owes moment (at, here.cell)) due refl here.holds in
+        item-after moment (Yard at) (batches_of here.cell.planet) item later due first.1 here.queue by
+
+    as-first : (held : Held) (moment : ℕ) (due : Due) (queue : Queue) → AllByRecursion (λ e. NoneSooner (planet_owes moment e) due) held.planets.entries
+        → (items : List Item) → items_held held queue ≡ items → IsFirstItem moment queue items due → IsFirstOfThese is_of_planet held moment due
+    as-first held moment due queue all items here is = record {
+      item = is.item;
+      later = is.later;
+      owed = ap (items_held held) is.queue_is ∙ here ∙ is.items_are;
+      second = is.second;
+      number = is.number;
+      due_by = is.due_by;
+      first = planet-after held moment due all;
+    }
+
+    planet-first : (held : Held) (moment : ℕ) (due : Due) (entry : Coord × PlanetCell) → planet_there held entry → AllByRecursion (λ e. NoneSooner (planet_owes moment e) due) held.planets.entries
+        → (first_of moment (Buildings entry.0) (buildings_of entry.1.planet) ≡ Some due) ⊎ (first_of moment (Yard entry.0) (batches_of entry.1.planet) ≡ Some due)
+        → IsFirstOfThese is_of_planet held moment due
+    planet-first held moment due entry there all (inl is) =
+        as-first held moment due (Buildings entry.0) all (buildings_of entry.1.planet) (ap (λ o. (seen_of (option_map planet_stand o)).queue BuildingsClass) there)
+        (first-item moment (Buildings entry.0) (buildings_of entry.1.planet) due is)
+    planet-first held moment due entry there all (inr is) =
+        as-first held moment due (Yard entry.0) all (batches_of entry.1.planet) (ap (λ o. (seen_of (option_map planet_stand o)).queue YardClass) there)
+        (first-item moment (Yard entry.0) (batches_of entry.1.planet) due is)
+
+no-account-due : (held : Held) (moment : ℕ) → AllByRecursion (λ e. account_owes moment e ≡ None) held.accounts.entries → IsNoneOfThese is_research held moment
+no-account-due held moment all (Buildings at) item later these is = never false these refl
+no-account-due held moment all (Research player) item later these is =
+    let here = in-account held (λ e. account_owes moment e ≡ None) player (get player_order held.accounts player) item later all refl is in
+    not-first moment (Research player) (research_of here.cell.account) item later here.queue here.holds
+no-account-due held moment all (Yard at) item later these is = never false these refl
+
+-- and so is the first of what accounts owe
+pub accounts_first : (held : Held) (moment : ℕ) (found : Option Due) → IsFirstOwed (account_owes moment) (account_there held) held.accounts.entries found
+    → MatchOption found (IsNoneOfThese is_research held moment) (IsFirstOfThese is_research held moment)
+accounts_first held moment None all = no-account-due held moment all
+accounts_first held moment (Some due) (found, all) =
+    let is = first-item moment (Research found.0.0) (research_of found.0.1.account) due found.2 in
+    record {
+      item = is.item;
+      later = is.later;
+      owed = ap (items_held held) is.queue_is ∙ ap items_held_by found.1 ∙ is.items_are;
+      second = is.second;
+      number = is.number;
+      due_by = is.due_by;
+      first = account-after held moment due all;
+    }
+  where
+    account-after : (held : Held) (moment : ℕ) (due : Due) → AllByRecursion (λ e. NoneSooner (account_owes moment e) due) held.accounts.entries
+        → (queue : Queue) (other : Item) (more : List Item) → is_research queue ≡ true → items_held held queue ≡ other ∷ more → other.second ≤ moment
+        → key_before (key_of (event_of queue other more)) (key_at due) ≡ false
+    account-after held moment due all (Buildings at) item later these is by = never false these refl
+    account-after held moment due all (Research player) item later these is by =
+        let here = in-account held (λ e. NoneSooner (account_owes moment e) due) player (get player_order held.accounts player) item later all refl is in
+        item-after moment (Research player) (research_of here.cell.account) item later due here.holds here.queue by
+    account-after held moment due all (Yard at) item later these is by = never false these refl
+
+-- each queue is one of these
+these-two : (queue : Queue) → (is_research queue ≡ true) ⊎ (is_of_planet queue ≡ true)
+these-two (Buildings at) = inr refl
+these-two (Research player) = inl refl
+these-two (Yard at) = inr refl
+
+-- nothing before a moment is due in some queues, or what is due first there isn't before this
+after-these : (these : Queue → Bool) (held : Held) (moment : ℕ) (found : Option Due) (due : Due) → MatchOption found (IsNoneOfThese these held moment) (IsFirstOfThese these held moment) → NoneSooner found due
+    → (queue : Queue) (other : Item) (more : List Item) → these queue ≡ true → items_held held queue ≡ other ∷ more → other.second ≤ moment
+    → key_before (key_of (event_of queue other more)) (key_at due) ≡ false
+after-these these held moment None due none after queue other more here is by =
+    let not_yet : moment < other.second = none queue other more here is in
+    let no : ⊥ = omega (arith, by, not_yet) in
+    absurd no
+after-these these held moment (Some first) due is after queue other more here items by =
+    key-not_before (key_of (event_of queue other more)) (key_at first) (key_at due) (is.first queue other more here items by) (after first refl)
+
+first-anew : (these : Queue → Bool) (held : Held) (moment : ℕ) (found : Option Due) (due : Due) → MatchOption found (IsNoneOfThese these held moment) (IsFirstOfThese these held moment) → found ≡ Some due
+    → ((queue : Queue) (other : Item) (more : List Item) → items_held held queue ≡ other ∷ more → other.second ≤ moment → key_before (key_of (event_of queue other more)) (key_at due) ≡ false)
+    → IsFirstDue held moment due
+first-anew these held moment None due first is after = let no : None ≡ Some due = is in absurd (cc no)
+first-anew these held moment (Some found) due first is after =
+    let same : found ≡ due = cc in
+    let here = subst (λ d. IsFirstOfThese these held moment d) same first in
+    record {
+      item = here.item;
+      later = here.later;
+      owed = here.owed;
+      second = here.second;
+      number = here.number;
+      due_by = here.due_by;
+      first = λ queue other more every items by. after queue other more items by;
+    }
+
+none-of-both : (held : Held) (moment : ℕ) (one other : Option Due) → MatchOption one (IsNoneOfThese is_research held moment) (IsFirstOfThese is_research held moment)
+    → MatchOption other (IsNoneOfThese is_of_planet held moment) (IsFirstOfThese is_of_planet held moment) → (one ≡ None) × (other ≡ None)
+    → IsNothingDue held moment
+none-of-both held moment one other first second (no_research, of_planet) queue item later every items =
+    elim (these-two queue) [
+      | inl these ↦ subst (λ o. MatchOption o (IsNoneOfThese is_research held moment) (IsFirstOfThese is_research held moment)) no_research first queue item later these items
+      | inr these ↦ subst (λ o. MatchOption o (IsNoneOfThese is_of_planet held moment) (IsFirstOfThese is_of_planet held moment)) of_planet second queue item later these items
+    ]
+
+-- the first of both is the first of all
+pub first_of_both : (held : Held) (moment : ℕ) (one other found : Option Due) → MatchOption one (IsNoneOfThese is_research held moment) (IsFirstOfThese is_research held moment)
+    → MatchOption other (IsNoneOfThese is_of_planet held moment) (IsFirstOfThese is_of_planet held moment) → sooner_of one other ≡ found
+    → MatchOption found (IsNothingDue held moment) (IsFirstDue held moment)
+first_of_both held moment one other None first second is = none-of-both held moment one other first second (neither-sooner one other is)
+first_of_both held moment one other (Some due) first second is =
+    let both = is-sooner one other due is in
+    let after : (queue : Queue) (item : Item) (more : List Item) → items_held held queue ≡ item ∷ more → item.second ≤ moment → key_before (key_of (event_of queue item more)) (key_at due) ≡ false =
+    λ queue item more items by. first-of-all held moment one other due first second both queue item more items by (these-two queue) in
+    elim both.either [
+      | inl here ↦ first-anew is_research held moment one due first here after
+      | inr here ↦ first-anew is_of_planet held moment other due second here after
+    ]
+  where
+    first-of-all : (held : Held) (moment : ℕ) (one other : Option Due) (due : Due) → MatchOption one (IsNoneOfThese is_research held moment) (IsFirstOfThese is_research held moment)
+        → MatchOption other (IsNoneOfThese is_of_planet held moment) (IsFirstOfThese is_of_planet held moment) → IsSooner one other due
+        → (queue : Queue) (item : Item) (more : List Item) → items_held held queue ≡ item ∷ more → item.second ≤ moment → (is_research queue ≡ true) ⊎ (is_of_planet queue ≡ true)
+        → key_before (key_of (event_of queue item more)) (key_at due) ≡ false
+    first-of-all held moment one other due first second both queue item more items by (inl these) = after-these is_research held moment one due first both.first queue item more these items by
+    first-of-all held moment one other due first second both queue item more items by (inr these) = after-these is_of_planet held moment other due second both.second queue item more these items by

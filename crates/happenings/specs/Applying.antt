@@ -1,33 +1,54 @@
--- What an event makes of the cells that are held. Rule: docs/RULES.md, "The building queue".
-use Rattle.std.specs.Prelude.{◌≡◌, ◌-◌, ◌≤◌, ℕ, [], Some}
-use Rattle.std.specs.BTreeMap.{get}
-use Rattle.base_ids.specs.declared.cell_id.CellId.TheVariants.{Planet as PlanetId}
-use Rattle.planet_cell.specs.Planet.{fields_of, items_of}
-use Rattle.planet_cell.specs.Queue.{finished, Runs}
+-- What an event makes of the cells that are held. Rules: docs/RULES.md, "Events" and "What happens in one second".
+use Rattle.std.specs.Prelude.{◌≡◌, ◌-◌, ◌≤◌, ℕ, true, List, ◌∷◌, Option, IfSome, option_map, if◌then◌else◌}
+use Rattle.base_ids.specs.declared.cell_id.CellId.{CellId}
+use Rattle.planet_cell.specs.Planet.{fields_of}
+use Rattle.ports.specs.declared.clock.TheConstants.{LATEST}
 use Rattle.rates.specs.Times.{times}
+use Rattle.tick_model.specs.Changes.{Change, seen_after}
+use Rattle.tick_model.specs.Events.{Event, event_change, footprint, second_of}
 use Rattle.tick_model.specs.Production.{planet_second}
-use Rattle.happenings.specs.Due.{owed_by}
-use Rattle.happenings.specs.Held.{Puts, Stand}
-use Rattle.happenings.specs.Orders.{place_order}
+use Rattle.tick_model.specs.Universe.{Item, PlanetFields}
+use Rattle.tick_model.specs.Views.{View, shown}
+use Rattle.tick_model.specs.declared.rules.Rules.{Rules}
+use Rattle.happenings.specs.Gaining.{gained, gained_at}
+use Rattle.happenings.specs.Held.{Stand, held_at}
+use Rattle.happenings.specs.Queues.{event_of, items_held, seen_of}
 use Rattle.happenings.specs.declared.due.Due.{Due}
 use Rattle.happenings.specs.declared.held.Held.{Held}
 use Rattle.happenings.specs.declared.held.PlanetCell.{PlanetCell}
 
--- the event can happen: the planet that owes it is held, and stands no later than it
+-- The event can happen: the first item of a queue that is held is due, and no cell that is held and that it needs stands later.
 pub record CanHappen (held : Held) (due : Due) : Type 0 where
-  pub cell : PlanetCell
-  pub there : get place_order held.planets due.at ≡ Some cell
-  pub owed : owed_by due.second due.at cell ≡ Some due
-  pub runs : Runs cell.planet.buildings.items
-  pub behind : cell.second ≤ due.second
+  pub item : Item
+  pub later : List Item
+  pub owed : items_held held due.queue ≡ item ∷ later
+  pub second : item.second ≡ due.second
+  pub in_time : due.second ≤ LATEST
+  pub behind : (cell : CellId) → footprint (event_of due.queue item later) cell ≡ true → IfSome (held_at held cell) (λ stand. stand.second ≤ due.second)
 
--- a planet after the building that it runs is done at a second: it gains until then, and then the building is done
-abbrev pub done_at : ℕ → ℕ → PlanetCell → Stand
-done_at speed second cell =
-    let built = finished speed (times (second - cell.second) (planet_second speed) (fields_of cell.planet)) (items_of cell.planet) in
-    record { second = second; seen = record { own = built.own; items = built.queue; fleets = []; planets = []; units = 0 } }
+-- what is seen of the cells that an event needs, once they have gained until its second
+abbrev pub seen_then : Rules → Event → Held → CellId → View
+seen_then rules event held = shown (footprint event) (λ cell. seen_of (gained_at rules (second_of event) held cell))
 
--- the planet that owes an event has changed so, and all other cells are as they were
-abbrev pub Happens : ℕ → Due → Held → Held → Type 0
-Happens speed due old new =
-    (cell : PlanetCell) → get place_order old.planets due.at ≡ Some cell → Puts old new (PlanetId due.at) (done_at speed due.second cell)
+-- what an event changes of them
+abbrev pub change_then : Rules → Event → Held → Change
+change_then rules event held = event_change rules event (seen_then rules event held)
+
+-- a cell that an event needs, after the event
+abbrev pub stand_after : Rules → Event → Held → CellId → Stand → Stand
+stand_after rules event held cell stand =
+    record { second = second_of event; seen = seen_after (change_then rules event held) cell (gained rules (second_of event) stand).seen }
+
+-- what is held of a cell after an event
+abbrev pub held_after : Rules → Event → Held → CellId → Option Stand
+held_after rules event held cell =
+    if footprint event cell then option_map (stand_after rules event held cell) (held_at held cell) else held_at held cell
+
+-- the event of the first item of this queue has happened
+abbrev pub Happens : Rules → Due → Held → Held → Type 0
+Happens rules due old new =
+    (item : Item) (later : List Item) → items_held old due.queue ≡ item ∷ later → (cell : CellId) → held_at new cell ≡ held_after rules (event_of due.queue item later) old cell
+
+-- what a planet that is held has of its own, once it has gained until a second
+abbrev pub fields_then : Rules → ℕ → PlanetCell → PlanetFields
+fields_then rules second cell = times (second - cell.second) (planet_second rules.speed) (fields_of cell.planet)

@@ -8,8 +8,8 @@ use Rattle.base_ids.specs.declared.cell_id.CellId.TheVariants.{Account as Accoun
 use Rattle.base_ids.specs.declared.coord.Coord.{Coord}
 use Rattle.base_ids.specs.declared.player.Player.{Player}
 use Rattle.laziness.specs.Stamps.{Stamps}
-use Rattle.account_cell.specs.Account.{account_fields}
-use Rattle.planet_cell.specs.Planet.{fields_of, items_of}
+use Rattle.account_cell.specs.Account.{account_fields, account_queue}
+use Rattle.planet_cell.specs.Planet.{fields_of, queue_of}
 use Rattle.tick_model.specs.Game.{game}
 use Rattle.tick_model.specs.Universe.{of_account, of_planet, Setting}
 use Rattle.tick_model.specs.Views.{View, view}
@@ -28,7 +28,7 @@ abbrev pub account_stand : AccountCell → Stand
 account_stand cell =
     record {
       second = cell.second;
-      seen = record { own = of_account (account_fields cell.account); items = []; fleets = []; planets = cell.account.planets.items; units = cell.account.units };
+      seen = record { own = of_account (account_fields cell.account); queue = account_queue cell.account; fleets = []; planets = cell.account.planets.items; units = cell.account.units };
     }
 
 -- a planet that is held
@@ -36,7 +36,7 @@ abbrev pub planet_stand : PlanetCell → Stand
 planet_stand cell =
     record {
       second = cell.second;
-      seen = record { own = of_planet (fields_of cell.planet); items = items_of cell.planet; fleets = []; planets = []; units = 0 };
+      seen = record { own = of_planet (fields_of cell.planet); queue = queue_of cell.planet; fleets = []; planets = []; units = 0 };
     }
 
 -- what is held of the cell of this name

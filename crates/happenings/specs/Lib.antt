@@ -1,10 +1,12 @@
 pub mod Orders
 pub mod Held
+pub mod Queues
 pub mod Due
+pub mod Gaining
 pub mod Applying
+pub mod Researching
 pub mod Merging
 pub mod Sights
 pub mod Naming
 pub mod Coming
-pub mod Gaining
 pub mod Numbering

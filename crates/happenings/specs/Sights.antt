@@ -1,5 +1,9 @@
 -- What cells that are held tell of themselves.
-use Rattle.std.specs.Prelude.{List, ◌++◌, Option, map, option_map}
+use Rattle.std.specs.Prelude.{◌≡◌, ◌&&◌, ℕ, List, [], ◌∷◌, ◌++◌, Bool, false, nat_le, Option, map, option_map}
+use Rattle.std.specs.List.{list_any}
+use Rattle.account_cell.specs.declared.research_item.ResearchItem.{ResearchItem}
+use Rattle.base_ids.specs.Cells.{same_cell}
+use Rattle.closure.specs.Lists.{has}
 use Rattle.std.specs.BTreeMap.{keys}
 use Rattle.base_ids.specs.declared.cell_id.CellId.{CellId}
 use Rattle.base_ids.specs.declared.cell_id.CellId.TheVariants.{Account, Planet}
@@ -14,3 +18,12 @@ sees_held held cell = option_map (λ stand. stand.seen) (held_at held cell)
 -- the names under which cells are held: the accounts, then the planets
 abbrev pub names_held : Held → List CellId
 names_held held = map Account (keys held.accounts) ++ map Planet (keys held.planets)
+
+-- a planet is to pay an item that waits, and the first item of these is done by a moment
+abbrev pub is_payer_by : ℕ → List ResearchItem → CellId → Bool
+is_payer_by moment [] cell = false
+is_payer_by moment (first ∷ waiting) cell = nat_le first.second moment && list_any (λ item. same_cell (Planet item.at) cell) waiting
+
+-- these are all such planets
+abbrev pub AreAllPayers : ℕ → List ResearchItem → List CellId → Type 0
+AreAllPayers moment items cells = (cell : CellId) → has cells cell ≡ is_payer_by moment items cell

@@ -1,31 +1,130 @@
 ghost use Rattle.std.specs.Prelude.{◌≡◌, ◌≤◌, OnErr, OnOk};
-ghost use Rattle.ports.specs.declared.clock.TheConstants.{LATEST};
 ghost use Rattle.happenings.specs.Applying.{CanHappen, Happens};
 ghost use Rattle.happenings.specs.Coming.{ActsIn};
 ghost use Rattle.happenings.specs.Held.{IsEqual, IsNamed};
 
 use crate::due::Due;
-use crate::held::Held;
+use crate::held::{Held, PlanetCell};
+use crate::queue::Queue;
+use crate::researching::finish_research;
+use base_ids::{Coord, Player};
 use std::alloc::AllocError;
 use tick_model::Rules;
 
-/// An event happens: the planet that owes it gains until its second, and then the building that it runs is done.
+/// An event happens: the cells that it needs gain until its second, and then the building or the research that runs is done, or the
+/// next unit of a yard.
 ///
-/// It fails only if memory runs out, and the cells then stay as they were.
+/// It fails only if memory runs out, and the cells then stay as they were. No event of today takes any.
 pub fn apply(cells: &mut Held, rules: &Rules, due: Due) -> Result<(), AllocError>
     requires due { CanHappen cells.old due }
     requires named { IsNamed cells.old }
-    ensures happens { OnOk result (Happens rules.now.speed due cells.old cells.new) }
+    ensures happens { OnOk result (Happens rules.now due cells.old cells.new) }
     ensures acts { OnOk result (ActsIn rules.now due cells.old cells.new) }
     ensures named { OnOk result (IsNamed cells.new) }
     ensures err { OnErr result (IsEqual cells.old cells.new) }
 {
-    let Some(cell) = cells.planet(due.at) else {
-        unreachable!()
-    };
-    let mut cell = cell.copy()?;
-    cell.planet.advance(due.second - cell.second, rules.speed);
-    cell.planet.finish_building(rules.speed);
-    cell.second = due.second;
-    cells.put_planet(cell)
+    match due.queue {
+        Queue::Buildings(at) => cells.finish_building(rules, due, at),
+        Queue::Research(player) => cells.finish_research(rules, due, player),
+        Queue::Yard(at) => cells.finish_unit(rules, due, at),
+    }
+    Ok(())
+}
+
+impl PlanetCell {
+    ghost use Rattle.std.specs.Prelude.{◌≡◌, ◌-◌, ◌≤◌};
+    ghost use Rattle.happenings.specs.Applying.{fields_then};
+    ghost use Rattle.happenings.specs.Gaining.{gained};
+    ghost use Rattle.happenings.specs.Held.{planet_stand};
+    ghost use Rattle.planet_cell.specs.Planet.{batches_of, buildings_of};
+    ghost use Rattle.planet_cell.specs.Queue.{Runs, built_of, finished};
+    ghost use Rattle.planet_cell.specs.Yard.{Builds, built, unit_finished, yard_of};
+
+    /// The planet gains until a second.
+    #[tactic(auto, using(crate::proofs::Gains::planet_gained_here))]
+    pub(crate) fn gain_to(&mut self, rules: &Rules, second: u64)
+        requires { self.old.second ≤ second }
+        ensures stand { planet_stand self.new ≡ gained rules.now second (planet_stand self.old) }
+        ensures at { self.new.planet.at ≡ self.old.planet.at }
+    {
+        self.planet.advance(second - self.second, rules.speed);
+        self.second = second;
+    }
+
+    /// The building that runs is done at a second.
+    fn finish_building(&mut self, rules: &Rules, second: u64)
+        requires runs { Runs self.old.planet.buildings.items }
+        requires behind { self.old.second ≤ second }
+        ensures second { self.new.second ≡ second }
+        ensures built { built_of self.new.planet ≡ finished rules.now.speed (fields_then rules.now second self.old) (buildings_of self.old.planet) }
+        ensures yard { batches_of self.new.planet ≡ batches_of self.old.planet }
+        ensures at { self.new.planet.at ≡ self.old.planet.at }
+    {
+        self.planet.advance(second - self.second, rules.speed);
+        self.planet.finish_building(rules.speed);
+        self.second = second;
+    }
+
+    /// The next unit of the yard is done at a second.
+    fn finish_unit(&mut self, rules: &Rules, second: u64)
+        requires builds { Builds (batches_of self.old.planet) }
+        requires behind { self.old.second ≤ second }
+        ensures second { self.new.second ≡ second }
+        ensures built { built (yard_of self.new.planet) ≡ unit_finished rules.now.speed (fields_then rules.now second self.old) (batches_of self.old.planet) }
+        ensures buildings { buildings_of self.new.planet ≡ buildings_of self.old.planet }
+        ensures at { self.new.planet.at ≡ self.old.planet.at }
+    {
+        self.planet.advance(second - self.second, rules.speed);
+        self.planet.finish_unit(rules.speed);
+        self.second = second;
+    }
+}
+
+impl Held {
+    ghost use Rattle.std.specs.Prelude.{◌≡◌};
+    ghost use Rattle.happenings.specs.Applying.{CanHappen, Happens};
+    ghost use Rattle.happenings.specs.Held.{IsNamed};
+    ghost use Rattle.happenings.specs.declared.queue.Queue.TheVariants.{Buildings, Research, Yard};
+
+    // The building that runs on the planet at a place is done.
+    fn finish_building(&mut self, rules: &Rules, due: Due, at: Coord)
+        requires due { CanHappen self.old due }
+        requires named { IsNamed self.old }
+        requires queue { due.queue ≡ Buildings at }
+        ensures happens { Happens rules.now due self.old self.new }
+        ensures named { IsNamed self.new }
+    {
+        let Some(cell) = self.planets.get_mut(&at) else {
+            unreachable!()
+        };
+        cell.finish_building(rules, due.second);
+    }
+
+    // The next unit of the yard of the planet at a place is done.
+    fn finish_unit(&mut self, rules: &Rules, due: Due, at: Coord)
+        requires due { CanHappen self.old due }
+        requires named { IsNamed self.old }
+        requires queue { due.queue ≡ Yard at }
+        ensures happens { Happens rules.now due self.old self.new }
+        ensures named { IsNamed self.new }
+    {
+        let Some(cell) = self.planets.get_mut(&at) else {
+            unreachable!()
+        };
+        cell.finish_unit(rules, due.second);
+    }
+
+    // The research that runs in a player's account is done.
+    fn finish_research(&mut self, rules: &Rules, due: Due, player: Player)
+        requires due { CanHappen self.old due }
+        requires named { IsNamed self.old }
+        requires queue { due.queue ≡ Research player }
+        ensures happens { Happens rules.now due self.old self.new }
+        ensures named { IsNamed self.new }
+    {
+        let Some(cell) = self.accounts.get_mut(&player) else {
+            unreachable!()
+        };
+        finish_research(cell, &mut self.planets, rules, due.second);
+    }
 }

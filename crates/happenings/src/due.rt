@@ -1,15 +1,16 @@
 ghost use Rattle.std.specs.Prelude.{◌≡◌};
 ghost use Rattle.happenings.specs.Due.{sooner_of};
 
-use crate::held::{Held, PlanetCell};
-use base_ids::Coord;
+use crate::held::{AccountCell, Held, PlanetCell};
+use crate::queue::Queue;
+use base_ids::{Coord, Player};
 
-/// A building that is done: at which second, by which order, and where.
+/// What is due first: at which second, by which order, and in which queue.
 #[derive(Clone, Copy, Debug, PartialEq, Eq)]
 pub struct Due {
     pub second: u64,
     pub number: u64,
-    pub at: Coord,
+    pub queue: Queue,
 }
 
 impl Due {
@@ -21,7 +22,13 @@ impl Due {
     pub fn is_before(self, other: Due) -> bool
         ensures { result ≡ key_before (key_at self) (key_at other) }
     {
-        self.second < other.second || self.second == other.second && self.number < other.number
+        if self.second != other.second {
+            return self.second < other.second;
+        }
+        if self.number != other.number {
+            return self.number < other.number;
+        }
+        self.queue.step() < other.queue.step()
     }
 }
 
@@ -36,13 +43,43 @@ fn sooner(first: Option<Due>, other: Option<Due>) -> Option<Due>
     }
 }
 
+impl AccountCell {
+    ghost use Rattle.std.specs.Prelude.{◌≡◌};
+    ghost use Rattle.happenings.specs.Due.{owed_by_account};
+
+    /// What the account of this player owes by a moment: the research that runs, if it is done by then.
+    pub fn owed(&self, player: Player, moment: u64) -> Option<Due>
+        ensures { result ≡ owed_by_account moment player self.now }
+    {
+        let item = self.account.research.first()?;
+        if item.second > moment {
+            return None;
+        }
+        Some(Due {
+            second: item.second,
+            number: item.number,
+            queue: Queue::Research(player),
+        })
+    }
+}
+
 impl PlanetCell {
     ghost use Rattle.std.specs.Prelude.{◌≡◌};
-    ghost use Rattle.happenings.specs.Due.{owed_by};
+    ghost use Rattle.happenings.specs.Due.{first_of, owed_by_planet};
+    ghost use Rattle.happenings.specs.declared.queue.Queue.TheVariants.{Buildings, Yard};
+    ghost use Rattle.planet_cell.specs.Planet.{batches_of, buildings_of};
 
-    /// What the planet, which stands at this place, owes by a moment: the building that runs, if it is done by then.
+    /// What the planet, which stands at this place, owes by a moment: the building that runs, or the next unit of its yard, if it is
+    /// done by then.
     pub fn owed(&self, at: Coord, moment: u64) -> Option<Due>
-        ensures { result ≡ owed_by moment at self.now }
+        ensures { result ≡ owed_by_planet moment at self.now }
+    {
+        sooner(self.building_due(at, moment), self.unit_due(at, moment))
+    }
+
+    // The building that runs, if it is done by a moment.
+    fn building_due(&self, at: Coord, moment: u64) -> Option<Due>
+        ensures { result ≡ first_of moment (Buildings at) (buildings_of self.now.planet) }
     {
         let item = self.planet.buildings.first()?;
         if item.second > moment {
@@ -51,7 +88,22 @@ impl PlanetCell {
         Some(Due {
             second: item.second,
             number: item.number,
-            at,
+            queue: Queue::Buildings(at),
+        })
+    }
+
+    // The next unit of the yard, if it is done by a moment.
+    fn unit_due(&self, at: Coord, moment: u64) -> Option<Due>
+        ensures { result ≡ first_of moment (Yard at) (batches_of self.now.planet) }
+    {
+        let batch = self.planet.yard.first()?;
+        if batch.second > moment {
+            return None;
+        }
+        Some(Due {
+            second: batch.second,
+            number: batch.number,
+            queue: Queue::Yard(at),
         })
     }
 }
@@ -59,12 +111,30 @@ impl PlanetCell {
 impl Held {
     ghost use Rattle.std.specs.Prelude.{MatchOption};
     ghost use Rattle.happenings.specs.Coming.{FindsFirst};
-    ghost use Rattle.happenings.specs.Due.{IsFirstDue, IsNothingDue};
+    ghost use Rattle.happenings.specs.Due.{IsFirstDue, IsFirstOfThese, IsNoneOfThese, IsNothingDue, is_of_planet, is_research};
 
-    /// The first event that a planet of these owes by a moment.
+    /// The first event that a cell of these owes by a moment.
     pub fn first_due(&self, moment: u64) -> Option<Due>
         ensures due { MatchOption result (IsNothingDue self.now moment) (IsFirstDue self.now moment) }
         ensures shown { FindsFirst self.now moment result }
+    {
+        sooner(self.research_due(moment), self.planet_due(moment))
+    }
+
+    // The first event that an account owes by a moment.
+    fn research_due(&self, moment: u64) -> Option<Due>
+        ensures { MatchOption result (IsNoneOfThese is_research self.now moment) (IsFirstOfThese is_research self.now moment) }
+    {
+        let mut first = None;
+        'accounts: for (player, cell) in self.accounts.iter() {
+            first = sooner(first, cell.owed(*player, moment));
+        }
+        first
+    }
+
+    // The first event that a planet owes by a moment.
+    fn planet_due(&self, moment: u64) -> Option<Due>
+        ensures { MatchOption result (IsNoneOfThese is_of_planet self.now moment) (IsFirstOfThese is_of_planet self.now moment) }
     {
         let mut first = None;
         'planets: for (at, cell) in self.planets.iter() {

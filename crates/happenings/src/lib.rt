@@ -8,7 +8,10 @@ mod held;
 mod looking;
 mod merging;
 mod numbering;
+mod queue;
+mod researching;
 
 pub use applying::apply;
 pub use due::Due;
 pub use held::{AccountCell, Held, PlanetCell};
+pub use queue::Queue;

@@ -1,31 +1,88 @@
-ghost use Rattle.happenings.specs.Held.{IsNamed, planet_stand};
+ghost use Rattle.happenings.specs.Held.{IsNamed, account_stand, planet_stand};
 ghost use Rattle.happenings.specs.Numbering.{Numbers, numbered_stand};
 ghost use Rattle.std.specs.Prelude.{◌≡◌};
+ghost use Rattle.tick_model.specs.Universe.{Buildings as BuildingsClass, Researches as ResearchClass, Yard as YardClass};
 
-use crate::held::{Held, PlanetCell};
-use base_ids::Coord;
+use crate::held::{AccountCell, Held, PlanetCell};
+use crate::queue::Queue;
+use base_ids::{Coord, Player};
+
+impl AccountCell {
+    /// Gives a number to the last item of the account's research queue, if there is one.
+    #[tactic(auto, using(crate::proofs::Numbered::numbered_cells))]
+    fn number_research(&mut self, number: u64)
+        ensures stand { account_stand self.new ≡ numbered_stand number ResearchClass (account_stand self.old) }
+        ensures player { self.new.account.player ≡ self.old.account.player }
+    {
+        if !self.account.research.is_empty() {
+            self.account.number_last_research(number);
+        }
+    }
+}
 
 impl PlanetCell {
     /// Gives a number to the last item of the planet's building queue, if there is one.
-    fn number_last(&mut self, number: u64)
-        ensures stand { planet_stand self.new ≡ numbered_stand number (planet_stand self.old) }
+    #[tactic(auto, using(crate::proofs::Numbered::numbered_cells))]
+    fn number_building(&mut self, number: u64)
+        ensures stand { planet_stand self.new ≡ numbered_stand number BuildingsClass (planet_stand self.old) }
         ensures at { self.new.planet.at ≡ self.old.planet.at }
     {
         if !self.planet.buildings.is_empty() {
-            self.planet.number_last(number);
+            self.planet.number_last_building(number);
+        }
+    }
+
+    /// Gives a number to the last batch of the planet's yard, if there is one.
+    #[tactic(auto, using(crate::proofs::Numbered::numbered_cells))]
+    fn number_batch(&mut self, number: u64)
+        ensures stand { planet_stand self.new ≡ numbered_stand number YardClass (planet_stand self.old) }
+        ensures at { self.new.planet.at ≡ self.old.planet.at }
+    {
+        if !self.planet.yard.is_empty() {
+            self.planet.number_last_batch(number);
         }
     }
 }
 
 impl Held {
-    /// Gives a number to the last item of the building queue of the planet at a place, if such an item is held. It takes no
-    /// memory.
-    pub fn number_last(&mut self, at: Coord, number: u64)
-        ensures numbers { Numbers number at self.old self.new }
+    ghost use Rattle.happenings.specs.declared.queue.Queue.TheVariants.{Buildings, Research, Yard};
+
+    /// Gives a number to the last item of a queue, if such an item is held. It takes no memory.
+    pub fn number_last(&mut self, queue: Queue, number: u64)
+        ensures numbers { Numbers number queue self.old self.new }
+        ensures named { IsNamed self.old → IsNamed self.new }
+    {
+        match queue {
+            Queue::Buildings(at) => self.number_building(at, number),
+            Queue::Research(player) => self.number_research(player, number),
+            Queue::Yard(at) => self.number_batch(at, number),
+        }
+    }
+
+    fn number_building(&mut self, at: Coord, number: u64)
+        ensures numbers { Numbers number (Buildings at) self.old self.new }
         ensures named { IsNamed self.old → IsNamed self.new }
     {
         if let Some(cell) = self.planets.get_mut(&at) {
-            cell.number_last(number);
+            cell.number_building(number);
+        }
+    }
+
+    fn number_research(&mut self, player: Player, number: u64)
+        ensures numbers { Numbers number (Research player) self.old self.new }
+        ensures named { IsNamed self.old → IsNamed self.new }
+    {
+        if let Some(cell) = self.accounts.get_mut(&player) {
+            cell.number_research(number);
+        }
+    }
+
+    fn number_batch(&mut self, at: Coord, number: u64)
+        ensures numbers { Numbers number (Yard at) self.old self.new }
+        ensures named { IsNamed self.old → IsNamed self.new }
+    {
+        if let Some(cell) = self.planets.get_mut(&at) {
+            cell.number_batch(number);
         }
     }
 }

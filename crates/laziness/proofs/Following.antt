@@ -6,7 +6,7 @@ use Rattle.laziness.specs.Second.{everything, second}
 use Rattle.laziness.specs.Stamps.{Stamps, happened, IsTimely}
 use Rattle.laziness.proofs.Bringing.{early, until, Alike, gains-until, gains-now}
 use Rattle.laziness.proofs.Locality.{after, Leads, Good, good-run, one_run, locality, run-clock, ends}
-use Rattle.laziness.proofs.Preparing.{all-apart, good-all, after-more, leads-more}
+use Rattle.laziness.proofs.Preparing.{all-apart, good-all, good-sooner, after-more, leads-more}
 use Rattle.laziness.proofs.Seconds.{stand, gained, ticks}
 
 -- the lazy universe f, whose cells stand at t or before, against the ticking universe u, which stands at t
@@ -32,18 +32,16 @@ happened-good M L S t f good =
     let run = ends M L S t f good.fine in
     subst (Good M S t) (sym run.is) (good-run M L S t run.events f good run.leads)
 
--- what has happened by a later second is what happens after what has happened by an earlier one
-happened-more : (M : Model) → ModelLaws M → (s t : ℕ) (f : Stamps M) → s ≤ t → M.Fine f.universe → IsTimely M f
-    → happened M (everything M) t f ≡ happened M (everything M) t (happened M (everything M) s f)
-happened-more M L s t f later fine timely =
-    let S = everything M in
-    let one = ends M L S s f fine in
+-- what happens by a later second is what happens after what happens by an earlier one
+pub happened-more : (M : Model) → ModelLaws M → (S : M.Id → Bool) (s t : ℕ) (f : Stamps M) → s ≤ t → Good M S t f → happened M S t f ≡ happened M S t (happened M S s f)
+happened-more M L S s t f later good =
+    let one = ends M L S s f good.fine in
     let middle = after M one.events f in
-    let good_middle : Good M S s middle = good-run M L S s one.events f (good-all M s f fine timely) one.leads in
+    let good_middle : Good M S s middle = good-run M L S s one.events f (good-sooner M S s t f later good) one.leads in
     let two = ends M L S t middle good_middle.fine in
-    let all = ends M L S t f fine in
+    let all = ends M L S t f good.fine in
     let same : all.events ≡ one.events ++ two.events =
-    one_run M L S t all.events (one.events ++ two.events) f (good-all M t f fine timely) all.leads (leads-more M L S s t later one.events two.events f one.leads two.leads) in
+    one_run M L S t all.events (one.events ++ two.events) f good all.leads (leads-more M L S s t later one.events two.events f one.leads two.leads) in
     all.is ∙ ap (λ es. after M es f) same ∙ after-more M one.events two.events f ∙ sym two.is ∙ ap (happened M S t) (sym one.is)
 
 -- it follows through a second
@@ -79,7 +77,7 @@ follows-second M L s t f u next follows =
           let before_n : n.at x ≤ t = let to_s : n.at x ≤ s = n_clock x in omega (arith, to_s, later) in
           let before_v : v.at x ≤ t = omega arith in
           let h = happened M S t v in
-          ap (λ g. until M t g x) (happened-more M L s t f later follows.fine follows.timely ∙ run_n.is)
+          ap (λ g. until M t g x) (happened-more M L S s t f later (good-all M t f follows.fine follows.timely) ∙ run_n.is)
           ∙ locality M L S S S t (everywhere M) (everywhere M) n v run_n.events run_v.events n_good_t tick.good (all-apart M t n) (all-apart M t v) alike run_n.leads run_v.leads x refl before_n before_v
           ∙ ap (λ g. until M t g x) (sym run_v.is)
           ∙ (λ i. M.gains (t - tick.shows.at x i) (M.view h.universe x))

@@ -75,8 +75,9 @@ same-event M L S t f g e can_f can_g agree next =
       ];
     }
 
-pub same-brought : (M : Model) → ModelLaws M → (S : M.Id → Bool) (t : ℕ) (f g : Stamps M) → CanBring M S t f → CanBring M S t g → AgreeStamped M S f g → AgreeStamped M S (brought M S t f) (brought M S t g)
-same-brought M L S t f g can_f can_g agree =
+-- cells that are alike are brought alike
+pub same-alike : (M : Model) → ModelLaws M → (S : M.Id → Bool) (t : ℕ) (f g : Stamps M) → CanBring M S t f → CanBring M S t g → Alike M S f g → AgreeStamped M S (brought M S t f) (brought M S t g)
+same-alike M L S t f g can_f can_g alike =
     let good_f = can-good M L S t f can_f in
     let good_g = can-good M L S t g can_g in
     let run_f = ends M L S t f can_f.fine in
@@ -85,12 +86,15 @@ same-brought M L S t f g can_f can_g agree =
       view = λ x inside.
           view-inside M L S t (happened M S t f) x inside
           ∙ ap (λ h. until M t h x) run_f.is
-          ∙ locality M L S S S t (λ y within. within) (λ y within. within) f g run_f.events run_g.events good_f good_g good_f.apart good_g.apart (agree-alike M S f g agree) run_f.leads run_g.leads
+          ∙ locality M L S S S t (λ y within. within) (λ y within. within) f g run_f.events run_g.events good_f good_g good_f.apart good_g.apart alike run_f.leads run_g.leads
           x inside (can_f.behind x inside) (can_g.behind x inside)
           ∙ sym (ap (λ h. until M t h x) run_g.is)
           ∙ sym (view-inside M L S t (happened M S t g) x inside);
       at = λ x inside. (prepares M L S t f good_f).now x inside ∙ sym ((prepares M L S t g good_g).now x inside);
     }
+
+pub same-brought : (M : Model) → ModelLaws M → (S : M.Id → Bool) (t : ℕ) (f g : Stamps M) → CanBring M S t f → CanBring M S t g → AgreeStamped M S f g → AgreeStamped M S (brought M S t f) (brought M S t g)
+same-brought M L S t f g can_f can_g agree = same-alike M L S t f g can_f can_g (agree-alike M S f g agree)
 
 -- both can take the request
 record BothReady (M : Model) (S : M.Id → Bool) (t : ℕ) (a : M.Ask) (f g : Stamps M) : Type 0 where

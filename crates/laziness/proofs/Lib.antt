@@ -9,5 +9,6 @@ pub mod Closures
 pub mod Worlds
 pub mod Histories
 pub mod Holding
+pub mod Parts
 pub mod Theorems
 pub mod ParcelLaws

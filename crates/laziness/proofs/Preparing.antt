@@ -17,24 +17,36 @@ all-apart M t f e stands due x y has_x has_y inside = refl
 pub good-all : (M : Model) (t : ℕ) (f : Stamps M) → M.Fine f.universe → IsTimely M f → Good M (everything M) t f
 good-all M t f fine timely = record { fine = fine; timely = timely; apart = all-apart M t f }
 
+-- what is good by a second is good by an earlier one
+pub good-sooner : (M : Model) (S : M.Id → Bool) (s t : ℕ) (f : Stamps M) → s ≤ t → Good M S t f → Good M S s f
+good-sooner M S s t f later good = record {
+  fine = good.fine;
+  timely = good.timely;
+  apart = λ e stands due x y has_x has_y inside. good.apart e stands (omega (arith, due, later)) x y has_x has_y inside;
+}
+
 pub after-more : (M : Model) (es ds : List M.Event) (f : Stamps M) → after M (es ++ ds) f ≡ after M ds (after M es f)
 after-more M [] ds f = refl
 after-more M (e ∷ es) ds f = after-more M es ds (event_acts M e f)
+
+-- what is next by s is next by a later t
+pub next-later : (M : Model) → ModelLaws M → (S : M.Id → Bool) (s t : ℕ) (f : Stamps M) (e : M.Event) → s ≤ t → IsNext M S s f.universe e → IsNext M S t f.universe e
+next-later M L S s t f e later next =
+    let due : M.second_of e ≤ s = next.due in
+    record {
+      stands = next.stands;
+      inside = next.inside;
+      due = omega (arith, due, later);
+      first = λ d stands home due_d before.
+          let sooner : M.second_of d ≤ M.second_of e = L.first_sooner d e before in
+          next.first d stands home (omega (arith, sooner, due)) before;
+    }
 
 -- a run to s and then one to a later t are one to t
 pub leads-more : (M : Model) → ModelLaws M → (S : M.Id → Bool) (s t : ℕ) → s ≤ t → (es ds : List M.Event) (f : Stamps M) → Leads M S s f es → Leads M S t (after M es f) ds → Leads M S t f (es ++ ds)
 leads-more M L S s t later [] ds f leads more = more
 leads-more M L S s t later (e ∷ es) ds f leads more =
-    let due : M.second_of e ≤ s = leads.0.due in
-    let next : IsNext M S t f.universe e = record {
-      stands = leads.0.stands;
-      inside = leads.0.inside;
-      due = omega (arith, due, later);
-      first = λ d stands home due_d before.
-          let sooner : M.second_of d ≤ M.second_of e = L.first_sooner d e before in
-          leads.0.first d stands home (omega (arith, sooner, due)) before;
-    } in
-    (next, leads-more M L S s t later es ds (event_acts M e f) leads.1 more)
+    (next-later M L S s t f e later leads.0, leads-more M L S s t later es ds (event_acts M e f) leads.1 more)
 
 -- an event of a set has its footprint there
 pub lies-inside : (M : Model) → ModelLaws M → (S : M.Id → Bool) (t : ℕ) (f : Stamps M) (e : M.Event) → IsApart M S t f → IsNext M S t f.universe e → (x : M.Id) → M.footprint e x ≡ true → S x ≡ true
@@ -60,7 +72,7 @@ pub run-count : (M : Model) → ModelLaws M → (es : List M.Event) (f : Stamps 
 run-count M L [] f = refl
 run-count M L (e ∷ es) f = run-count M L es (event_acts M e f) ∙ acts-count M L f e
 
-bring-closed : (M : Model) → ModelLaws M → (S : M.Id → Bool) (t : ℕ) (k : M.Id → ℕ) (u : M.Universe) → IsClosed M (M.view u) t S → IsClosed M (M.view (M.advance k u)) t S
+pub bring-closed : (M : Model) → ModelLaws M → (S : M.Id → Bool) (t : ℕ) (k : M.Id → ℕ) (u : M.Universe) → IsClosed M (M.view u) t S → IsClosed M (M.view (M.advance k u)) t S
 bring-closed M L S t k u closed x inside y brings =
     closed x inside y (L.gains_bring (k x) t (M.view u x) y (subst (λ v. M.brings v t y ≡ true) (L.advanced k u x) brings))
 

@@ -5,7 +5,7 @@ use Rattle.laziness.specs.Laws.{NoneDue, IsNext, IsClosed, Covers, IsReady, Agre
 use Rattle.laziness.specs.Closing.{closing, IsLeast}
 use Rattle.laziness.specs.Second.{everything, second}
 use Rattle.laziness.specs.World.{Base, IsBase, InOrder, last_moment, world, world_reply}
-use Rattle.laziness.specs.Stamps.{Stamps, event_acts, happened, brought, request_acts, IsTimely, AgreeStamped}
+use Rattle.laziness.specs.Stamps.{Stamps, bring_to, event_acts, happened, brought, request_acts, IsTimely, AgreeStamped}
 use Rattle.laziness.specs.Lazy.{touched, lazily, lazy, lazy_reply}
 use Rattle.laziness.specs.Touch.{StandsFor}
 
@@ -105,3 +105,26 @@ pub record CellsDecide (M : Model) : Type 0 where
   pub reply : (S : M.Id → Bool) (t : ℕ) (a : M.Ask) (f g : Stamps M) → CanBring M S t f → CanBring M S t g → AgreeStamped M S f g
       → Covers M (M.view f.universe) a S → M.count f.universe ≡ M.count g.universe
       → M.reply a t (brought M S t f).universe ≡ M.reply a t (brought M S t g).universe
+
+-- These events act, one after another, each the first that is due by the second s, and lead to that end, where none is left. All
+-- the way the set can be brought to the second t.
+abbrev pub FirstsLead : (M : Model) → (M.Id → Bool) → ℕ → ℕ → Stamps M → List M.Event → Stamps M → Type 0
+FirstsLead M S s t f [] end = CanBring M S t f × NoneDue M S s f.universe × (end ≡ f)
+FirstsLead M S s t f (e ∷ es) end = CanBring M S t f × IsNext M S s f.universe e × FirstsLead M S s t (event_acts M e f) es end
+
+-- Before a closed set is brought to a second, its events up to an earlier one can act, and then some of its cells can be brought
+-- there: the set comes to the same.
+pub record PartsComeFirst (M : Model) : Type 0 where
+  -- what happens by the earlier second is one first event after another
+  pub each : (S : M.Id → Bool) (s t : ℕ) (f : Stamps M) → s ≤ t → CanBring M S t f
+      → (es : List M.Event) × FirstsLead M S s t f es (happened M S s f)
+  -- then none of these is left, and the set can still be brought
+  pub still : (S : M.Id → Bool) (s t : ℕ) (f : Stamps M) → s ≤ t → CanBring M S t f
+      → CanBring M S t (happened M S s f) × NoneDue M S s (happened M S s f).universe
+  -- what happens by the later second is what happens then
+  pub onward : (S : M.Id → Bool) (s t : ℕ) (f : Stamps M) → s ≤ t → CanBring M S t f → happened M S t (happened M S s f) ≡ happened M S t f
+  -- once nothing is due by a second, some of the cells that stand no later can be brought there, and it makes no difference to the
+  -- set later
+  pub early : (S P : M.Id → Bool) (s t : ℕ) (f : Stamps M) → s ≤ t → CanBring M S t f → NoneDue M S s f.universe → ((x : M.Id) → P x ≡ true → S x ≡ true)
+      → ((x : M.Id) → P x ≡ true → f.at x ≤ s)
+      → CanBring M S t (bring_to M P s f) × AgreeStamped M S (brought M S t (bring_to M P s f)) (brought M S t f)

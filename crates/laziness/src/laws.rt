@@ -2,7 +2,7 @@ ghost use Rattle.laziness.specs.Laws.{ModelLaws};
 ghost use Rattle.laziness.specs.Lazy.{lazy, lazy_reply};
 ghost use Rattle.laziness.specs.Parcels.{parcel_model, start, story, look_later};
 ghost use Rattle.std.specs.Prelude.{◌≡◌, true, false};
-ghost use Rattle.laziness.specs.Theorems.{CellsDecide, ClosuresAreLeast, EntriesTouchTheirClosure, LazyEqualsTicking, SecondsEnd, TicksLocally};
+ghost use Rattle.laziness.specs.Theorems.{CellsDecide, ClosuresAreLeast, EntriesTouchTheirClosure, LazyEqualsTicking, PartsComeFirst, SecondsEnd, TicksLocally};
 
 use crate::ticks::Ticking;
 use std::marker::Brand;
@@ -38,6 +38,12 @@ pub fn cells_decide<T: Ticking>()
     ensures { (setting : T.Setting) → CellsDecide (T.model setting) }
 {}
 
+/// Before a closed set is brought to a second, its events up to an earlier one can act, and then some of its cells can be
+/// brought there.
+pub fn parts_come_first<T: Ticking>()
+    ensures { (setting : T.Setting) → PartsComeFirst (T.model setting) }
+{}
+
 /// The laws don't contradict each other: two cells and a parcel between them meet them.
 pub fn parcels_tick()
     ensures laws { ModelLaws parcel_model }
@@ -47,6 +53,7 @@ pub fn parcels_tick()
     ensures lazy { LazyEqualsTicking parcel_model }
     ensures touches { EntriesTouchTheirClosure parcel_model }
     ensures cells { CellsDecide parcel_model }
+    ensures parts { PartsComeFirst parcel_model }
     // The receiver has ten, gets three, and gains for twenty seconds.
     ensures reply { lazy_reply parcel_model start story look_later ≡ 33 }
     // Until then it stands at the second at which the parcel was sent.
@@ -58,4 +65,5 @@ pub fn parcels_tick()
     lazy_equals_ticking::<Brand>();
     entries_touch_their_closure::<Brand>();
     cells_decide::<Brand>();
+    parts_come_first::<Brand>();
 }

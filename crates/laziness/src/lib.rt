@@ -7,6 +7,6 @@ mod ticks;
 
 pub use laws::{
     cells_decide, closures_are_least, entries_touch_their_closure, lazy_equals_ticking,
-    parcels_tick, seconds_end, ticks_locally,
+    parcels_tick, parts_come_first, seconds_end, ticks_locally,
 };
 pub use ticks::Ticking;

@@ -1,81 +1,50 @@
 -- A request that acted on parts that were taken from held cells, and the universe in which it acted.
-use Rattle.std.proofs.Common.{◌≡◌, ℕ, ◌+◌, true, false, cond, refl, ap, ◌∙◌, sym, subst, List, inl, inr, Option, Some, None}
+use Rattle.std.proofs.Common.{◌≡◌, ℕ, ◌+◌, Bool, true, false, cond, eqb, ◌||◌, List, [], refl, ap, ◌∙◌, sym, subst, inl, inr, Option, Some, None}
 use Rattle.std.specs.Prelude.{IfSome, is_some, option_map}
+use Rattle.account_cell.specs.declared.account.Account.{Account as AccountOfProgram}
 use Rattle.base_ids.specs.Cells.{same_cell}
 use Rattle.base_ids.specs.declared.cell_id.CellId.{CellId}
-use Rattle.base_ids.specs.declared.cell_id.CellId.TheVariants.{Planet}
+use Rattle.base_ids.specs.declared.cell_id.CellId.TheVariants.{Account, Planet}
 use Rattle.base_ids.specs.declared.coord.Coord.{Coord}
 use Rattle.base_ids.specs.declared.player.Player.{Player}
 use Rattle.closure.specs.declared.places.Places.{Places}
-use Rattle.happenings.specs.Held.{IsNamed, Shows, ShowsCell, Stand, held_at, holds, planet_stand}
+use Rattle.happenings.proofs.Acting.{held-seen}
+use Rattle.happenings.proofs.Standing.{held-well}
+use Rattle.happenings.specs.Held.{IsEqual, IsNamed, Puts, Shows, ShowsCell, Stand, account_stand, held_at, holds, planet_stand}
 use Rattle.happenings.specs.Numbering.{numbered_at, numbered_stand}
-use Rattle.happenings.specs.Orders.{place_order}
-use Rattle.happenings.specs.declared.held.PlanetCell.{PlanetCell}
-use Rattle.happenings.proofs.Acting.{named_planet, shows_planet}
-use Rattle.happenings.proofs.Standing.{all-building, planet_seen, queue-is}
-use Rattle.std.specs.BTreeMap.{get}
-use Rattle.planet_cell.specs.Planet.{fields_of, items_of}
-use Rattle.planet_cell.specs.Queue.{numbered}
-use Rattle.planet_cell.specs.declared.planet.Planet.{Planet as PlanetOfProgram}
-use Rattle.lazy.proofs.Stepping.{other_stepped, planet_stepped}
-use Rattle.laziness.proofs.Bringing.{at-inside}
-use Rattle.laziness.specs.Stamps.{happened}
-use Rattle.tick_model.proofs.Asked.{shown-planet}
-use Rattle.tick_model.proofs.Lists.{cell-is, cell-itself}
-use Rattle.tick_model.proofs.Written.{request-made}
-use Rattle.tick_model.proofs.Writes.{is_building_at}
-use Rattle.tick_model.specs.Requests.{own_seen}
-use Rattle.tick_model.specs.Rules.{IsIn}
-use Rattle.tick_model.specs.Universe.{Item, Own, PlanetFields, of_nothing, of_planet}
-use Rattle.tick_model.specs.Views.{holding}
+use Rattle.happenings.specs.Queues.{class_of, home_of, seen_held}
 use Rattle.happenings.specs.declared.held.Held.{Held}
-use Rattle.laziness.proofs.Bringing.{never, test}
+use Rattle.happenings.specs.declared.queue.Queue.{Queue}
+use Rattle.happenings.specs.declared.queue.Queue.TheVariants.{Buildings as BuildingsAt, Research as ResearchOf, Yard as YardAt}
+use Rattle.laziness.proofs.Bringing.{at-inside, never, test}
 use Rattle.laziness.proofs.Holding.{can-good}
 use Rattle.laziness.proofs.Preparing.{prepares}
-use Rattle.laziness.specs.Stamps.{Stamps, brought, request_acts}
-use Rattle.lazy.proofs.Outcoming.{at_number, comes-to, grants, order-numbered, refuses, unordered-same, ComesTo}
-use Rattle.lazy.proofs.Showing.{are-shown, asked-held, entry_of}
+use Rattle.laziness.specs.Stamps.{Stamps, brought, happened, request_acts}
+use Rattle.lazy.proofs.Counting.{AreApart, cells-apart}
+use Rattle.lazy.proofs.Outcoming.{ComesTo, IsGranted, answer-same, at_number, comes-to, is-granted, number-units, number_seen, own-alike, seen-numbered}
+use Rattle.lazy.proofs.Showing.{are-shown, asked-held}
+use Rattle.lazy.proofs.Stepping.{account-stepped, is_named, other-unasked, planet-stepped, refused-stepped, unasked-stepped}
 use Rattle.lazy.specs.Planning.{CanAnswer, HoldsSame}
-use Rattle.lazy.specs.Plans.{IsPlan, place_ordered}
-use Rattle.lazy.specs.Taking.{AreTaken, PutsBack, seen_by}
-use Rattle.orders.specs.Acting.{Acts, Comes, IsLeftAs, place_named, planet_own, queue_after, queue_of}
+use Rattle.lazy.specs.Plans.{IsPlan, queue_ordered}
+use Rattle.lazy.specs.Taking.{AreTaken, PutsAccount, PutsPlanet, seen_by}
+use Rattle.orders.specs.Acting.{Acts, Comes, IsLeftAs, account_seen, place_named, planet_seen, seen_after, units_after, units_ordered}
 use Rattle.orders.specs.declared.parts.Acted.{Acted}
 use Rattle.orders.specs.declared.parts.Parts.{Parts}
+use Rattle.planet_cell.specs.declared.planet.Planet.{Planet as PlanetOfProgram}
 use Rattle.request_text.specs.declared.entry.Entry.{Entry}
 use Rattle.request_text.specs.declared.request.Request.{Request}
-use Rattle.request_text.specs.declared.request.Request.TheVariants.{Build}
+use Rattle.request_text.specs.declared.request.Request.TheVariants.{Planet as PlanetOf, Account as AccountOf, Build, Research, Yard as YardOf, Set}
+use Rattle.tick_model.proofs.Asked.{shown-account, shown-planet}
 use Rattle.tick_model.proofs.GameLaws.{game_laws}
-use Rattle.tick_model.proofs.Writes.{write-nothing}
-use Rattle.tick_model.specs.Changes.{write, no_change}
+use Rattle.tick_model.proofs.Lists.{cell-is, cell-itself}
+use Rattle.tick_model.proofs.Owns.{IsAlike}
+use Rattle.tick_model.specs.Changes.{Change}
 use Rattle.tick_model.specs.Game.{game}
-use Rattle.tick_model.specs.Requests.{Answer, Outcome, Sight, asked, outcome}
+use Rattle.tick_model.specs.Requests.{Answer, Outcome, Sight, asked, outcome, own_seen}
 use Rattle.tick_model.specs.Step.{sight_of, step}
-use Rattle.tick_model.specs.Universe.{Setting, State}
-use Rattle.tick_model.specs.Views.{view}
+use Rattle.tick_model.specs.Universe.{AccountFields, Own, PlanetFields, Setting, State, of_account, of_nothing, of_planet}
+use Rattle.tick_model.specs.Views.{View, view}
 use Rattle.tick_model.specs.declared.rules.Rules.{Rules}
-
--- the answer doesn't depend on the number
-answer-at : (sight : Sight) (number : ℕ) (player : Player) (req : Request) (ordered : Option Coord) → place_ordered req ≡ ordered
-    → (outcome (at_number number sight) player req).answer ≡ (outcome sight player req).answer
-answer-at sight number player req None is = ap (λ (came : Outcome). came.answer) (unordered-same sight number player req is)
-answer-at sight number player req (Some at) is = (order-numbered sight number player req at is).answer
-
-answer-same : (sight : Sight) (number : ℕ) (player : Player) (req : Request) → (outcome (at_number number sight) player req).answer ≡ (outcome sight player req).answer
-answer-same sight number player req = answer-at sight number player req (place_ordered req) refl
-
--- a request that is refused changes nothing
-refused-change : (sight : Sight) (player : Player) (named : Option Coord) (came : Outcome) → (came.answer.code ≡ 0 → ⊥) → ComesTo sight player named came → came.change ≡ no_change sight.seen
-refused-change sight player named came denied (refuses code reason is) = ap (λ (x : Outcome). x.change) is
-refused-change sight player named came denied (grants at account planet place caller there granted) = absurd (denied granted)
-
-refused-views : (setting : Setting) (player : Player) (req : Request) (moment : ℕ) (state : State) (cell : CellId) → ((outcome (sight_of setting player req moment state) player req).answer.code ≡ 0 → ⊥)
-    → view setting.cells (step setting player req moment state).state cell ≡ view setting.cells state cell
-unfolding step
-refused-views setting player req moment state cell denied =
-    let sight = sight_of setting player req moment state in
-    let some = asked setting.cells (view setting.cells state) player req in
-    let none = refused-change sight player (place_named req) (outcome sight player req) denied (comes-to sight player req) in
-    ap (λ change. view setting.cells (write some change state) cell) none ∙ ap (λ u. view setting.cells u cell) (write-nothing setting.cells some state)
 
 reply-is : (setting : Setting) (player : Player) (req : Request) (moment number : ℕ) (answer : Answer) (state : State) → number ≡ state.number + 1
     → answer ≡ (outcome (sight_of setting player req moment state) player req).answer
@@ -87,55 +56,119 @@ if_shown : (o : Option Stand) (P Q : Stand → Type 0) → ((stand : Stand) → 
 if_shown None P Q g p = tt
 if_shown (Some stand) P Q g p = g stand p
 
--- what every cell has of its own doesn't depend on the number
-own-at : (sight : Sight) (number : ℕ) (player : Player) (req : Request) (ordered : Option Coord) → place_ordered req ≡ ordered
-    → (outcome (at_number number sight) player req).change.own ≡ (outcome sight player req).change.own
-own-at sight number player req None is = ap (λ (came : Outcome). came.change.own) (unordered-same sight number player req is)
-own-at sight number player req (Some at) is = (order-numbered sight number player req at is).own
+-- an account that is there is left there
+account-left : (o : Option AccountOfProgram) (player : Player) (account : AccountFields) (old new : Own) → IfSome o (λ a. a.player ≡ player) → old ≡ of_account account
+    → (account_seen o).own ≡ new → IsAlike old new → (a : AccountOfProgram) × (o ≡ Some a) × (a.player ≡ player)
+account-left None player account old new whose was left alike = absurd (subst (λ own. IsAlike own of_nothing) was (subst (IsAlike old) (sym left) alike))
+account-left (Some a) player account old new whose was left alike = (a, refl, whose)
 
--- the items of a queue, the last one with this number if it was ordered
-queue_with : ℕ → Option Coord → List Item → List Item
-queue_with number None items = items
-queue_with number (Some at) items = numbered number items
+-- so is a planet
+planet-left : (o : Option PlanetOfProgram) (at : Coord) (planet : PlanetFields) (old new : Own) → IfSome o (λ p. p.at ≡ at) → old ≡ of_planet planet
+    → (planet_seen o).own ≡ new → IsAlike old new → (p : PlanetOfProgram) × (o ≡ Some p) × (p.at ≡ at)
+planet-left None at planet old new place was left alike = absurd (subst (λ own. IsAlike own of_nothing) was (subst (IsAlike old) (sym left) alike))
+planet-left (Some p) at planet old new place was left alike = (p, refl, place)
 
-queue-at : (sight : Sight) (number : ℕ) (player : Player) (req : Request) (at : Coord) (ordered : Option Coord) → place_ordered req ≡ ordered → IfSome ordered (λ place. place ≡ at)
-    → (outcome sight player req).answer.code ≡ 0
-    → queue_after (at_number number sight) (outcome (at_number number sight) player req).change at ≡ queue_with number ordered (queue_after sight (outcome sight player req).change at)
-unfolding queue_with
-queue-at sight number player req at None is place granted = ap (λ (came : Outcome). queue_after sight came.change at) (unordered-same sight number player req is)
-queue-at sight number player req at (Some other) is place granted =
-    (order-numbered sight number player req at (is ∙ ap Some place)).queue granted
+-- What a number makes of what is held.
 
--- an order is made at the place that is named
-order-place : (req : Request) (at : Coord) → place_named req ≡ Some at → IfSome (place_ordered req) (λ place. place ≡ at)
-order-place (Build place building) at is = cc
-order-place _ at is = tt
+numbered-cond : (b : Bool) (number : ℕ) (queue : Queue) (stand : Stand)
+    → cond b (Some (numbered_stand number (class_of queue) stand)) (Some stand)
+    ≡ Some (record stand { seen = cond b (numbered_stand number (class_of queue) stand).seen stand.seen })
+numbered-cond true number queue stand = refl
+numbered-cond false number queue stand = refl
 
-numbered-here : (number : ℕ) (ordered : Option Coord) (held : Held) (at : Coord) (stand : Stand) → IfSome ordered (λ place. place ≡ at) → held_at held (Planet at) ≡ Some stand
-    → numbered_at number ordered held (Planet at) ≡ Some (record stand { seen = record stand.seen { items = queue_with number ordered stand.seen.items } })
-unfolding queue_with
-numbered-here number None held at stand place is = is
-numbered-here number (Some other) held at stand place is =
-    let here : same_cell (Planet other) (Planet at) ≡ true = ap (λ p. same_cell (Planet p) (Planet at)) place ∙ cell-itself (Planet at) in
-    ap (λ b. cond b (option_map (numbered_stand number) (held_at held (Planet at))) (held_at held (Planet at))) here ∙ ap (option_map (numbered_stand number)) is
+numbered-here : (number : ℕ) (ordered : Option Queue) (held : Held) (cell : CellId) (stand : Stand) → held_at held cell ≡ Some stand
+    → numbered_at number ordered held cell ≡ Some (record stand { seen = number_seen number ordered cell stand.seen })
+numbered-here number None held cell stand is = is
+numbered-here number (Some queue) held cell stand is =
+    ap (λ o. cond (same_cell (home_of queue) cell) (option_map (numbered_stand number (class_of queue)) o) o) is
+    ∙ numbered-cond (same_cell (home_of queue) cell) number queue stand
 
-numbered-other : (number : ℕ) (ordered : Option Coord) (held : Held) (at : Coord) (cell : CellId) → IfSome ordered (λ place. place ≡ at) → same_cell (Planet at) cell ≡ false
-    → numbered_at number ordered held cell ≡ held_at held cell
-numbered-other number None held at cell place apart = refl
-numbered-other number (Some other) held at cell place apart =
-    ap (λ b. cond b (option_map (numbered_stand number) (held_at held cell)) (held_at held cell)) (ap (λ p. same_cell (Planet p) cell) place ∙ apart)
+numbered-apart : (number : ℕ) (queue : Queue) (held : Held) (cell : CellId) → same_cell (home_of queue) cell ≡ false → numbered_at number (Some queue) held cell ≡ held_at held cell
+numbered-apart number queue held cell apart = ap (λ b. cond b (option_map (numbered_stand number (class_of queue)) (held_at held cell)) (held_at held cell)) apart
 
-planet-there : (o : Option PlanetCell) → is_some (option_map planet_stand o) ≡ true → (cell : PlanetCell) × (o ≡ Some cell)
-planet-there None there = never false there refl
-planet-there (Some cell) there = (cell, refl)
+-- an order is made in a queue of the caller's account or at the place that is named
+numbered-other : (number : ℕ) (player : Player) (req : Request) (held : Held) (cell : CellId) → same_cell (Account player) cell ≡ false → is_named (place_named req) cell ≡ false
+    → numbered_at number (queue_ordered player req) held cell ≡ held_at held cell
+numbered-other number player (PlanetOf at) held cell account place = refl
+numbered-other number player AccountOf held cell account place = refl
+numbered-other number player (Build at building) held cell account place = numbered-apart number (BuildingsAt at) held cell place
+numbered-other number player (Research at technology) held cell account place = numbered-apart number (ResearchOf player) held cell account
+numbered-other number player (YardOf at unit count) held cell account place = numbered-apart number (YardAt at) held cell place
+numbered-other number player (Set at work tenths) held cell account place = refl
+numbered-other number player _ held cell account place = refl
 
--- what belongs to a planet isn't nothing
-no-planet : {A : Type 0} (planet : PlanetFields) (own : Own) → holding own ≡ holding (of_planet planet) → own ≡ of_nothing → A
-no-planet planet own kept none = let both : holding of_nothing ≡ holding (of_planet planet) = ap holding (sym none) ∙ kept in absurd (cc both)
+-- a cell is held at a moment, and this is seen of it
+pub record IsHeld (cells : Held) (cell : CellId) (moment : ℕ) (left : View) : Type 0 where
+  pub stand : Stand
+  pub is : held_at cells cell ≡ Some stand
+  pub second : stand.second ≡ moment
+  pub seen : stand.seen ≡ left
+
+-- the parts of a request are held at a moment, and all other cells as before
+pub record ArePut (player : Player) (named : Option Coord) (moment : ℕ) (parts : Parts) (old new : Held) : Type 0 where
+  pub caller : IsHeld new (Account player) moment (account_seen parts.caller)
+  pub from : IfSome named (λ at. IsHeld new (Planet at) moment (planet_seen parts.from))
+  pub others : (cell : CellId) → same_cell (Account player) cell ≡ false → is_named named cell ≡ false → held_at new cell ≡ held_at old cell
+
+-- the parts are there
+pub record AreLeft (player : Player) (named : Option Coord) (parts : Parts) : Type 0 where
+  pub account : AccountOfProgram
+  pub caller : parts.caller ≡ Some account
+  pub player_is : account.player ≡ player
+  pub from : IfSome named (λ at. (planet : PlanetOfProgram) × (parts.from ≡ Some planet) × (planet.at ≡ at))
+
+put-here : (old new : Held) (name cell : CellId) (stand : Stand) → Puts old new name stand → name ≡ cell → held_at new cell ≡ Some stand
+put-here old new name cell stand puts same =
+    puts cell ∙ ap (λ b. cond b (Some stand) (held_at old cell)) (ap (λ x. same_cell x cell) same ∙ cell-itself cell)
+
+put-there : (old new : Held) (name other cell : CellId) (stand : Stand) → Puts old new name stand → name ≡ other → same_cell other cell ≡ false → held_at new cell ≡ held_at old cell
+put-there old new name other cell stand puts same apart =
+    puts cell ∙ ap (λ b. cond b (Some stand) (held_at old cell)) (ap (λ x. same_cell x cell) same ∙ apart)
+
+pub are-put : (player : Player) (named : Option Coord) (moment : ℕ) (parts : Parts) (old middle new : Held) → AreLeft player named parts
+    → PutsAccount parts.caller moment old middle → PutsPlanet named parts.from moment middle new → ArePut player named moment parts old new
+are-put player None moment parts old middle new left first second =
+    let stand = account_stand (record { second = moment; account = left.account }) in
+    let put = subst (λ (o : Option AccountOfProgram). PutsAccount o moment old middle) left.caller first in
+    record {
+      caller = record {
+        stand = stand;
+        is = second (Account player) ∙ put-here old middle (Account left.account.player) (Account player) stand put (ap Account left.player_is);
+        second = refl;
+        seen = ap account_seen (sym left.caller);
+      };
+      from = tt;
+      others = λ cell apart place. second cell ∙ put-there old middle (Account left.account.player) (Account player) cell stand put (ap Account left.player_is) apart;
+    }
+are-put player (Some at) moment parts old middle new left first second =
+    let stand = account_stand (record { second = moment; account = left.account }) in
+    let put = subst (λ (o : Option AccountOfProgram). PutsAccount o moment old middle) left.caller first in
+    let planet = left.from.0 in
+    let there = planet_stand (record { second = moment; planet = planet }) in
+    let then_put = subst (λ (o : Option PlanetOfProgram). PutsPlanet (Some at) o moment middle new) left.from.1 second in
+    let name : Planet planet.at ≡ Planet at = ap Planet left.from.2 in
+    record {
+      caller = record {
+        stand = stand;
+        is = put-there middle new (Planet planet.at) (Planet at) (Account player) there then_put name refl
+            ∙ put-here old middle (Account left.account.player) (Account player) stand put (ap Account left.player_is);
+        second = refl;
+        seen = ap account_seen (sym left.caller);
+      };
+      from = record {
+        stand = there;
+        is = put-here middle new (Planet planet.at) (Planet at) there then_put name;
+        second = refl;
+        seen = ap planet_seen (sym left.from.1);
+      };
+      others = λ cell apart place.
+          put-there middle new (Planet planet.at) (Planet at) cell there then_put name place
+          ∙ put-there old middle (Account left.account.player) (Account player) cell stand put (ap Account left.player_is) apart;
+    }
 
 module _ (setting : Setting) (kept : Rules) (places : Places) (held : Held) (player : Player) (req : Request) (moment : ℕ) (f : Stamps (game setting))
-    (can : CanAnswer setting kept places held player req moment f) (now : Held) (same : HoldsSame held now) (shows : Shows setting now (brought (game setting) (holds held) moment f))
-    (parts after : Parts) (taken : AreTaken (seen_by now player) player req parts) (acted : Acted) (acts : Acts kept moment req parts after acted) where
+    (can : CanAnswer setting kept places held player req moment f) (now : Held) (same : HoldsSame held now) (named : IsNamed now)
+    (shows : Shows setting now (brought (game setting) (holds held) moment f)) where
   abbrev brought_there : Stamps (game setting)
   brought_there = brought (game setting) (holds held) moment f
 
@@ -145,136 +178,182 @@ module _ (setting : Setting) (kept : Rules) (places : Places) (held : Held) (pla
   abbrev sight : Sight
   sight = sight_of setting player req moment state
 
-  comes : Comes (at_number 0 sight) player (place_named req) (outcome (at_number 0 sight) player req) after acted
-  comes = acts (at_number 0 sight) player (are-shown setting kept places held player req moment f can now same shows parts taken)
+  abbrev asks : CellId → Bool
+  asks = asked setting.cells (view setting.cells state) player req
+
+  -- what the request comes to, by its number
+  abbrev came : ℕ → Outcome
+  came number = outcome (at_number number sight) player req
+
+  comes_to : ComesTo sight player req came
+  comes_to = comes-to sight player req
+
+  -- its number
+  abbrev drawn : ℕ
+  drawn = state.number + 1
+
+  abbrev ordered : Option Queue
+  ordered = queue_ordered player req
 
   -- the number of the last request
   count-is : state.number ≡ f.universe.number
   count-is = (prepares (game setting) (game_laws setting) (holds held) moment f (can-good (game setting) (game_laws setting) (holds held) moment f can.advance.can_bring)).count
 
-  answered : record { code = acted.code; body = acted.body } ≡ (outcome sight player req).answer
-  answered =
-      (λ i. record { code = comes.code i; body = comes.body i })
-      ∙ sym (answer-same (at_number 0 sight) (state.number + 1) player req)
+  inside : (cell : CellId) → asks cell ≡ true → holds now cell ≡ true
+  inside = asked-held setting kept places held player req moment f can now same shows
 
-  replied : (number : ℕ) → number ≡ f.universe.number + 1 → record { number = number; moment = moment; code = acted.code; body = acted.body } ≡ (step setting player req moment state).reply
-  replied number next =
-      reply-is setting player req moment number (record { code = acted.code; body = acted.body }) state (next ∙ ap (λ n. n + 1) (sym count-is)) answered
+  no-fleets : (cell : CellId) → asks cell ≡ true → (view setting.cells state cell).fleets ≡ []
+  no-fleets cell has = ap (λ (v : View). v.fleets) (sym (held-seen setting now brought_there cell shows (inside cell has))) ∙ (held-well now cell named).fleets
+
+  apart : AreApart setting.cells
+  apart = subst AreApart (sym can.directory) (cells-apart places)
 
   -- an entry of this request acts in the same way
   entry-view : (entry : Entry) → entry.player ≡ player → entry.req ≡ req → (cell : CellId)
       → view setting.cells (step setting player req moment state).state cell ≡ view setting.cells (request_acts (game setting) (holds held) moment entry f).universe cell
   entry-view entry is_player is_req cell = (λ i. view setting.cells (step setting (sym is_player i) (sym is_req i) moment state).state cell)
 
-  -- the plan of a request that is refused: the cells as they are
-  pub refused-plan : IsNamed now → (acted.code ≡ 0 → ⊥) → IsPlan setting held player req moment f (record { cells = now; moment = moment; code = acted.code; body = acted.body; ordered = None })
-  refused-plan named denied =
-      let reason : (outcome sight player req).answer.code ≡ 0 → ⊥ = λ none. denied (ap (λ (a : Answer). a.code) answered ∙ none) in
-      record {
-        same = same;
-        named = named;
-        shows = λ number entry next is_player is_req cell.
-            if_shown (held_at now cell) (ShowsCell setting brought_there cell) (ShowsCell setting (request_acts (game setting) (holds held) moment entry f) cell)
-            (λ stand shown. record {
-              second = shown.second;
-              seen = shown.seen ∙ sym (refused-views setting player req moment state cell reason) ∙ entry-view entry is_player is_req cell;
-            }) (shows cell);
-        replied = replied;
-      }
+  module _ (parts after : Parts) (taken : AreTaken (seen_by now player) player req parts) (acted : Acted) (acts : Acts kept moment req parts after acted) where
+    comes : Comes (at_number 0 sight) player req (came 0) after acted
+    comes = acts (at_number 0 sight) player (are-shown setting kept places held player req moment f can now same shows parts taken)
 
-  -- what is left at the place that is named
-  module _ (named : IsNamed now) (at : Coord) (place : place_named req ≡ Some at) (planet : PlanetFields) (there : own_seen (at_number 0 sight) (Planet at) ≡ of_planet planet)
-      (granted : (outcome (at_number 0 sight) player req).answer.code ≡ 0) where
-    asked-there : asked setting.cells (view setting.cells state) player req (Planet at) ≡ true
-    asked-there = (shown-planet (asked setting.cells (view setting.cells state) player req) (view setting.cells state) (Planet at) planet there).0
+    answered : record { code = acted.code; body = acted.body } ≡ (outcome sight player req).answer
+    answered = (λ i. record { code = comes.code i; body = comes.body i }) ∙ answer-same sight player req came 0 drawn comes_to
 
-    holds-there : holds now (Planet at) ≡ true
-    holds-there = asked-held setting kept places held player req moment f can now same shows (Planet at) asked-there
+    replied : (number : ℕ) → number ≡ f.universe.number + 1 → record { number = number; moment = moment; code = acted.code; body = acted.body } ≡ (step setting player req moment state).reply
+    replied number next =
+        reply-is setting player req moment number (record { code = acted.code; body = acted.body }) state (next ∙ ap (λ n. n + 1) (sym count-is)) answered
 
-    left-at : IsLeftAs (at_number 0 sight) (outcome (at_number 0 sight) player req).change at after.from
-    left-at = subst (λ (o : Option Coord). IfSome o (λ x. IsLeftAs (at_number 0 sight) (outcome (at_number 0 sight) player req).change x after.from)) place comes.from
-
-    own-left : (outcome sight player req).change.own (Planet at) ≡ planet_own after.from
-    own-left = ap (λ own. own (Planet at)) (own-at (at_number 0 sight) (state.number + 1) player req (place_ordered req) refl) ∙ left-at.own
-
-    queue-left : queue_after sight (outcome sight player req).change at ≡ queue_with (state.number + 1) (place_ordered req) (queue_of after.from)
-    queue-left =
-        queue-at (at_number 0 sight) (state.number + 1) player req at (place_ordered req) refl (order-place req at place) granted
-        ∙ ap (queue_with (state.number + 1) (place_ordered req)) left-at.queue
-
-    -- a planet is left there
-    some-left : {A : Type 0} → after.from ≡ None → A
-    some-left none =
-        let entry = entry_of player req moment in
-        let held_is = (request-made setting entry moment state).within.holdings (Planet at) asked-there in
-        let was = (shown-planet (asked setting.cells (view setting.cells state) player req) (view setting.cells state) (Planet at) planet there).1 in
-        no-planet planet ((outcome sight player req).change.own (Planet at)) (held_is ∙ ap holding was) (own-left ∙ ap planet_own none)
-
-    stepped-there : view setting.cells (step setting player req moment state).state (Planet at)
-        ≡ planet_seen (planet_own after.from) (queue_with (state.number + 1) (place_ordered req) (queue_of after.from))
-    stepped-there =
-        let found = planet-there (get place_order now.planets at) holds-there in
-        let cell = found.0 in
-        let shown = shows_planet setting now brought_there at cell shows found.1 in
-        let own : cell.planet.at ≡ at = named_planet now at cell named found.1 in
-        let olds : (y : Item) → IsIn y (items_of cell.planet) → is_building_at (Planet at) y ≡ true =
-        (λ y is. subst (λ (c : Coord). is_building_at (Planet c) y ≡ true) own (all-building cell.planet.at cell.planet.buildings.items y is)) in
-        planet_stepped setting player req moment state at (of_planet (fields_of cell.planet)) (items_of cell.planet) place asked-there (sym shown.seen)
-        (queue-is cell.planet.at cell.planet.buildings.items) olds
-        ∙ (λ i. planet_seen (own-left i) (queue-left i))
-
-    -- the plan of a request that is granted: the planet that it left is put back
-    granted-there : (cells : Held) (from : Option PlanetOfProgram) → after.from ≡ from → PutsBack from moment now cells → IsNamed cells
-        → IsPlan setting held player req moment f (record { cells = cells; moment = moment; code = acted.code; body = acted.body; ordered = place_ordered req })
-    granted-there cells None is puts named_now = some-left is
-    granted-there cells (Some left) is puts named_now =
-        let own : left.at ≡ at = subst (λ (o : Option PlanetOfProgram). IfSome o (λ x. x.at ≡ at)) is left-at.place in
-        let stand : Stand = planet_stand (record { second = moment; planet = left }) in
-        let here : held_at cells (Planet at) ≡ Some stand =
-        puts (Planet at) ∙ ap (λ b. cond b (Some stand) (held_at now (Planet at))) (ap (λ p. same_cell (Planet p) (Planet at)) own ∙ cell-itself (Planet at)) in
-        let elsewhere : (cell : CellId) → same_cell (Planet at) cell ≡ false → held_at cells cell ≡ held_at now cell =
-        (λ cell apart. puts cell ∙ ap (λ b. cond b (Some stand) (held_at now cell)) (ap (λ p. same_cell (Planet p) cell) own ∙ apart)) in
+    -- the plan of a request that is refused: the cells as they are
+    pub refused-plan : (acted.code ≡ 0 → ⊥) → IsPlan setting held player req moment f (record { cells = now; moment = moment; code = acted.code; body = acted.body; ordered = None })
+    refused-plan denied =
+        let reason : (outcome sight player req).answer.code ≡ 0 → ⊥ = λ none. denied (ap (λ (a : Answer). a.code) answered ∙ none) in
         record {
-          same = λ cell. elim (test (same_cell (Planet at) cell)) [
-            | inl one ↦
-                let there_is : holds cells cell ≡ true = subst (λ c. holds cells c ≡ true) (cell-is (Planet at) cell one) (ap is_some here) in
-                let was : holds now cell ≡ true = subst (λ c. holds now c ≡ true) (cell-is (Planet at) cell one) holds-there in
-                there_is ∙ sym was ∙ same cell
-            | inr other ↦ ap is_some (elsewhere cell other) ∙ same cell
-          ];
-          named = named_now;
+          same = same;
+          named = named;
           shows = λ number entry next is_player is_req cell.
-              let acts_there = request_acts (game setting) (holds held) moment entry f in
-              elim (test (same_cell (Planet at) cell)) [
-                | inl one ↦
-                    let count : number ≡ state.number + 1 = next ∙ ap (λ n. n + 1) (sym count-is) in
-                    let inside : holds held (Planet at) ≡ true = sym (same (Planet at)) ∙ holds-there in
-                    let numbers = numbered-here number (place_ordered req) cells at stand (order-place req at place) here in
-                    subst (λ c. IfSome (numbered_at number (place_ordered req) cells c) (ShowsCell setting acts_there c)) (cell-is (Planet at) cell one)
-                    (subst (λ (o : Option Stand). IfSome o (ShowsCell setting acts_there (Planet at))) (sym numbers) (record {
-                      second = sym (at-inside (game setting) (holds held) moment (happened (game setting) (holds held) moment f) (Planet at) inside);
-                      seen = (λ i. planet_seen (of_planet (fields_of left)) (queue_with (count i) (place_ordered req) (items_of left)))
-                          ∙ (λ i. planet_seen (planet_own (sym is i)) (queue_with (state.number + 1) (place_ordered req) (queue_of (sym is i))))
-                          ∙ sym stepped-there ∙ entry-view entry is_player is_req (Planet at);
-                    }))
-                | inr other ↦
-                    let apart : IfSome (place_named req) (λ x. same_cell (Planet x) cell ≡ false) = subst (λ (o : Option Coord). IfSome o (λ x. same_cell (Planet x) cell ≡ false)) (sym place) other in
-                    subst (λ (o : Option Stand). IfSome o (ShowsCell setting acts_there cell))
-                    (sym (numbered-other number (place_ordered req) cells at cell (order-place req at place) other ∙ elsewhere cell other))
-                    (if_shown (held_at now cell) (ShowsCell setting brought_there cell) (ShowsCell setting acts_there cell)
-                    (λ stand shown. record {
-                      second = shown.second;
-                      seen = shown.seen ∙ sym (other_stepped setting player req moment state cell apart) ∙ entry-view entry is_player is_req cell;
-                    }) (shows cell))
-              ];
+              if_shown (held_at now cell) (ShowsCell setting brought_there cell) (ShowsCell setting (request_acts (game setting) (holds held) moment entry f) cell)
+              (λ stand shown. record {
+                second = shown.second;
+                seen = shown.seen ∙ sym (refused-stepped setting player req moment state cell reason) ∙ entry-view entry is_player is_req cell;
+              }) (shows cell);
           replied = replied;
         }
 
-  -- the plan of a request that is granted
-  pub granted-plan : IsNamed now → (cells : Held) → PutsBack after.from moment now cells → IsNamed cells → acted.code ≡ 0
-      → IsPlan setting held player req moment f (record { cells = cells; moment = moment; code = acted.code; body = acted.body; ordered = place_ordered req })
-  granted-plan named cells puts named_now granted =
-      elim (comes-to (at_number 0 sight) player req) [
-        | refuses code reason is ↦ absurd (reason (sym (ap (λ (came : Outcome). came.answer.code) is) ∙ sym comes.code ∙ granted))
-        | grants at account planet place caller there given ↦ granted-there named at place planet there given cells after.from refl puts named_now
-      ]
+    -- A request that is granted.
+    module _ (zero : acted.code ≡ 0) where
+      code_is : (came 0).answer.code ≡ 0
+      code_is = sym comes.code ∙ zero
+
+      given : IsGranted sight player req
+      given = is-granted sight player req came 0 comes_to code_is
+
+      caller-asked : asks (Account player) ≡ true
+      caller-asked = shown-account asks (view setting.cells state) (Account player) given.account given.caller
+
+      -- the account after it
+      account-after : number_seen drawn ordered (Account player) (account_seen after.caller) ≡ view setting.cells (step setting player req moment state).state (Account player)
+      account-after =
+          let units = (sight.seen (Account player)).units in
+          ap (number_seen drawn ordered (Account player)) comes.caller
+          ∙ number-units drawn ordered (Account player) (seen_after sight (came 0).change (Account player)) (units_after units req (came 0))
+          ∙ ap (λ (v : View). record v { units = units_after units req (came 0) }) (sym (seen-numbered sight player req came drawn 0 (Account player) comes_to code_is))
+          ∙ ap (λ (a : Answer). record (seen_after sight (came drawn).change (Account player)) { units = units + cond (eqb a.code 0) (units_ordered req) 0 }) (answer-same sight player req came 0 drawn comes_to)
+          ∙ sym (account-stepped setting player req moment state apart caller-asked (no-fleets (Account player) caller-asked))
+
+      -- the planet after it
+      planet-after : (at : Coord) → asks (Planet at) ≡ true → IsLeftAs (at_number 0 sight) (came 0).change at after.from
+          → number_seen drawn ordered (Planet at) (planet_seen after.from) ≡ view setting.cells (step setting player req moment state).state (Planet at)
+      planet-after at has left =
+          ap (number_seen drawn ordered (Planet at)) left.seen
+          ∙ sym (seen-numbered sight player req came drawn 0 (Planet at) comes_to code_is)
+          ∙ sym (planet-stepped setting player req moment state at has (no-fleets (Planet at) has))
+
+      pub account-there : (a : AccountOfProgram) × (after.caller ≡ Some a) × (a.player ≡ player)
+      account-there =
+          account-left after.caller player given.account (own_seen sight (Account player)) ((came 0).change.own (Account player)) comes.whose given.caller
+          (ap (λ (v : View). v.own) comes.caller) (own-alike sight player req came 0 comes_to (Account player))
+
+      planet-there : (at : Coord) (planet : PlanetFields) → own_seen sight (Planet at) ≡ of_planet planet → IsLeftAs (at_number 0 sight) (came 0).change at after.from
+          → (p : PlanetOfProgram) × (after.from ≡ Some p) × (p.at ≡ at)
+      planet-there at planet there left =
+          planet-left after.from at planet (own_seen sight (Planet at)) ((came 0).change.own (Planet at)) left.place there
+          (ap (λ (v : View). v.own) left.seen) (own-alike sight player req came 0 comes_to (Planet at))
+
+      -- the parts are there, and what is named is asked for
+      both-left : (place : Option Coord) → IfSome place (λ at. (planet : PlanetFields) × (own_seen sight (Planet at) ≡ of_planet planet))
+          → IfSome place (λ at. IsLeftAs (at_number 0 sight) (came 0).change at after.from) → AreLeft player place after
+      both-left None there left = record { account = account-there.0; caller = account-there.1; player_is = account-there.2; from = tt }
+      both-left (Some at) there left =
+          record { account = account-there.0; caller = account-there.1; player_is = account-there.2; from = planet-there at there.0 there.1 left }
+
+      -- what holds of a cell that is put back: it shows what the request makes of it
+      shows-put : (cells : Held) (cell : CellId) (left : View) (number : ℕ) (entry : Entry) → asks cell ≡ true → IsHeld cells cell moment left
+          → number_seen drawn ordered cell left ≡ view setting.cells (step setting player req moment state).state cell → number ≡ f.universe.number + 1 → entry.player ≡ player → entry.req ≡ req
+          → IfSome (numbered_at number ordered cells cell) (ShowsCell setting (request_acts (game setting) (holds held) moment entry f) cell)
+      shows-put cells cell left number entry has put after_is next is_player is_req =
+          let acts_there = request_acts (game setting) (holds held) moment entry f in
+          let count : number ≡ drawn = next ∙ ap (λ n. n + 1) (sym count-is) in
+          let holds_there : holds held cell ≡ true = sym (same cell) ∙ inside cell has in
+          subst (λ (o : Option Stand). IfSome o (ShowsCell setting acts_there cell)) (sym (numbered-here number ordered cells cell put.stand put.is))
+          (record {
+            second = put.second ∙ sym (at-inside (game setting) (holds held) moment (happened (game setting) (holds held) moment f) cell holds_there);
+            seen = (λ i. number_seen (count i) ordered cell (put.seen i)) ∙ after_is ∙ entry-view entry is_player is_req cell;
+          })
+
+      shows-other : (cells : Held) (cell : CellId) (number : ℕ) (entry : Entry) → same_cell (Account player) cell ≡ false → is_named (place_named req) cell ≡ false
+          → held_at cells cell ≡ held_at now cell → entry.player ≡ player → entry.req ≡ req
+          → IfSome (numbered_at number ordered cells cell) (ShowsCell setting (request_acts (game setting) (holds held) moment entry f) cell)
+      shows-other cells cell number entry account place kept_there is_player is_req =
+          let acts_there = request_acts (game setting) (holds held) moment entry f in
+          subst (λ (o : Option Stand). IfSome o (ShowsCell setting acts_there cell)) (sym (numbered-other number player req cells cell account place ∙ kept_there))
+          (if_shown (held_at now cell) (ShowsCell setting brought_there cell) (ShowsCell setting acts_there cell)
+          (λ stand shown. record {
+            second = shown.second;
+            seen = shown.seen ∙ sym (unasked-stepped setting player req moment state cell (other-unasked setting player req moment state cell account place)) ∙ entry-view entry is_player is_req cell;
+          }) (shows cell))
+
+      -- which cells are put back
+      data IsPart (cells : Held) (cell : CellId) : Type 0 where
+        part : (left : View) → asks cell ≡ true → IsHeld cells cell moment left
+            → number_seen drawn ordered cell left ≡ view setting.cells (step setting player req moment state).state cell → IsPart cells cell
+        other : same_cell (Account player) cell ≡ false → is_named (place_named req) cell ≡ false → held_at cells cell ≡ held_at now cell → IsPart cells cell
+
+      place-part : (cells : Held) (cell : CellId) (place : Option Coord) → IfSome place (λ at. (planet : PlanetFields) × (own_seen sight (Planet at) ≡ of_planet planet))
+          → IfSome place (λ at. IsLeftAs (at_number 0 sight) (came 0).change at after.from) → IfSome place (λ at. IsHeld cells (Planet at) moment (planet_seen after.from))
+          → is_named place cell ≡ true → IsPart cells cell
+      place-part cells cell None there left put is = never false is refl
+      place-part cells cell (Some at) there left put is =
+          let has = (shown-planet asks (view setting.cells state) (Planet at) there.0 there.1).0 in
+          subst (IsPart cells) (cell-is (Planet at) cell is) (part (planet_seen after.from) has put (planet-after at has left))
+
+      each-part : (cells : Held) → ArePut player (place_named req) moment after now cells → (cell : CellId) → IsPart cells cell
+      each-part cells put cell =
+          elim (test (same_cell (Account player) cell)) [
+            | inl account ↦ subst (IsPart cells) (cell-is (Account player) cell account) (part (account_seen after.caller) caller-asked put.caller account-after)
+            | inr apart_from ↦ elim (test (is_named (place_named req) cell)) [
+              | inl place ↦ place-part cells cell (place_named req) given.place comes.from put.from place
+              | inr elsewhere ↦ other apart_from elsewhere (put.others cell apart_from elsewhere)
+            ]
+          ]
+
+      held-same : (cells : Held) (cell : CellId) → IsPart cells cell → holds cells cell ≡ holds held cell
+      held-same cells cell (part left has put after_is) = ap is_some put.is ∙ sym (inside cell has) ∙ same cell
+      held-same cells cell (other account place kept_there) = ap is_some kept_there ∙ same cell
+
+      shows-part : (cells : Held) (cell : CellId) (number : ℕ) (entry : Entry) → number ≡ f.universe.number + 1 → entry.player ≡ player → entry.req ≡ req → IsPart cells cell
+          → IfSome (numbered_at number ordered cells cell) (ShowsCell setting (request_acts (game setting) (holds held) moment entry f) cell)
+      shows-part cells cell number entry next is_player is_req (part left has put after_is) = shows-put cells cell left number entry has put after_is next is_player is_req
+      shows-part cells cell number entry next is_player is_req (other account place kept_there) = shows-other cells cell number entry account place kept_there is_player is_req
+
+      -- the plan of a request that is granted: the parts that it left are put back
+      pub granted-plan : (middle cells : Held) → PutsAccount after.caller moment now middle → PutsPlanet (place_named req) after.from moment middle cells → IsNamed cells
+          → IsPlan setting held player req moment f (record { cells = cells; moment = moment; code = acted.code; body = acted.body; ordered = ordered })
+      granted-plan middle cells first second named_now =
+          let put = are-put player (place_named req) moment after now middle cells (both-left (place_named req) given.place comes.from) first second in
+          record {
+            same = λ cell. held-same cells cell (each-part cells put cell);
+            named = named_now;
+            shows = λ number entry next is_player is_req cell. shows-part cells cell number entry next is_player is_req (each-part cells put cell);
+            replied = replied;
+          }

@@ -3,28 +3,28 @@ use Rattle.std.proofs.Common.{◌≡◌, ℕ, Bool, true, false, cond, refl, ap,
 use Rattle.std.specs.Prelude.{IfSome, is_some, option_map}
 use Rattle.base_ids.specs.Cells.{same_cell}
 use Rattle.base_ids.specs.declared.cell_id.CellId.{CellId}
-use Rattle.base_ids.specs.declared.cell_id.CellId.TheVariants.{Planet}
-use Rattle.base_ids.specs.declared.coord.Coord.{Coord}
 use Rattle.base_ids.specs.declared.player.Player.{Player}
 use Rattle.happenings.specs.Held.{IsNamed, ShowsCell, Stand, held_at, holds}
 use Rattle.happenings.specs.Numbering.{numbered_at, numbered_stand}
+use Rattle.happenings.specs.Queues.{class_of, home_of}
 use Rattle.happenings.specs.declared.held.Held.{Held}
+use Rattle.happenings.specs.declared.queue.Queue.{Queue}
 use Rattle.laziness.specs.Stamps.{Stamps, request_acts}
 use Rattle.lazy.specs.Planning.{IsAnswered}
 use Rattle.lazy.specs.Plans.{IsPlan, reply_with}
 use Rattle.lazy.specs.declared.planning.Plan.{Plan}
 use Rattle.request_text.specs.declared.request.Request.{Request}
 use Rattle.tick_model.specs.Game.{game}
-use Rattle.tick_model.specs.Universe.{Setting}
+use Rattle.tick_model.specs.Universe.{QueueClass, Setting}
 
-still-some : (b : Bool) (number : ℕ) (o : Option Stand) → is_some (cond b (option_map (numbered_stand number) o) o) ≡ is_some o
-still-some true number None = refl
-still-some true number (Some stand) = refl
-still-some false number o = refl
+still-some : (b : Bool) (number : ℕ) (class : QueueClass) (o : Option Stand) → is_some (cond b (option_map (numbered_stand number class) o) o) ≡ is_some o
+still-some true number class None = refl
+still-some true number class (Some stand) = refl
+still-some false number class o = refl
 
-numbered-held : (number : ℕ) (ordered : Option Coord) (held : Held) (cell : CellId) → is_some (numbered_at number ordered held cell) ≡ holds held cell
+numbered-held : (number : ℕ) (ordered : Option Queue) (held : Held) (cell : CellId) → is_some (numbered_at number ordered held cell) ≡ holds held cell
 numbered-held number None held cell = refl
-numbered-held number (Some at) held cell = still-some (same_cell (Planet at) cell) number (held_at held cell)
+numbered-held number (Some queue) held cell = still-some (same_cell (home_of queue) cell) number (class_of queue) (held_at held cell)
 
 -- the cells and the reply are the answer
 pub plan-answers : (setting : Setting) (f : Stamps (game setting)) (held : Held) (player : Player) (req : Request) (moment number : ℕ) (plan : Plan) (cells : Held)

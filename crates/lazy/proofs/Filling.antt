@@ -1,11 +1,12 @@
 -- The cells of a base are held, one after the other.
 use Rattle.std.proofs.Common.{◌≡◌, ℕ, ◌+◌, ◌<◌, ◌≤◌, Bool, true, false, cond, List, [], ◌∷◌, ◌++◌, length, get_or, take, map, append_assoc, Option, Some, refl, ap, ◌∙◌, sym, subst, arith}
+use Rattle.std.proofs.Math.Path.{fun_ext}
 use Rattle.std.proofs.lemmas.Simd.{map-map}
 use Rattle.std.proofs.lemmas.List.{get_or-map, length-map, map-append, take_more}
 use Rattle.std.specs.Prelude.{AllPairs, IfSome, is_some, ◌||◌}
 use Rattle.std.specs.Coded.{le_prop}
 use Rattle.std.specs.List.{Contains}
-use Rattle.account_cell.specs.Account.{AreSame as AreSameAccount}
+use Rattle.account_cell.specs.Account.{AreSame as AreSameAccount, account_queue, research_item}
 use Rattle.account_cell.specs.declared.account.Account.{Account}
 use Rattle.base_bytes.specs.Base.{setting_of, universe_of}
 use Rattle.base_bytes.specs.Sound.{IsSound}
@@ -24,10 +25,10 @@ use Rattle.closure.proofs.Sameness.{same_cell_swap}
 use Rattle.closure.proofs.Unions.{has-append}
 use Rattle.happenings.specs.Held.{IsNamed, Puts, ShowsCell, Stand, account_stand, held_at, planet_stand}
 use Rattle.happenings.specs.declared.held.Held.{Held}
-use Rattle.planet_cell.specs.Planet.{AreSame, item_of}
+use Rattle.planet_cell.specs.Planet.{AreSame, batch_item_of, item_of, queue_of}
 use Rattle.planet_cell.specs.declared.planet.Planet.{Planet}
 use Rattle.tick_model.specs.Keeping.{lazily_at}
-use Rattle.tick_model.specs.Universe.{of_account, of_planet}
+use Rattle.tick_model.specs.Universe.{Buildings, QueueClass, Researches, Yard, of_account, of_planet}
 use Rattle.tick_model.proofs.Lists.{cell-is}
 use Rattle.tick_model.specs.declared.rules.Rules.{Rules}
 use Rattle.lazy.specs.Beginning.{HoldsOf, player_of, spot_of}
@@ -70,22 +71,37 @@ holds-more base names old new name stand holds puts named shows = record {
     alone true = refl
     alone false = refl
 
+-- copies have the same queues
+account-queues : (account copy : Account) → AreSameAccount account copy → (class : QueueClass) → account_queue copy class ≡ account_queue account class
+account-queues account copy equal Buildings = refl
+account-queues account copy equal Researches = λ i. map (research_item (sym equal.player i)) (sym equal.research i)
+account-queues account copy equal Yard = refl
+
+planet-queues : (planet copy : Planet) → AreSame planet copy → (class : QueueClass) → queue_of copy class ≡ queue_of planet class
+planet-queues planet copy same Buildings = λ i. map (item_of (sym same.at i)) (sym same.buildings i)
+planet-queues planet copy same Researches = refl
+planet-queues planet copy same Yard = λ i. map (batch_item_of (sym same.at i)) (sym same.yard i)
+
 -- a copy of an account of the base shows it
 account-shows : (base : Base) (account copy : Account) → IsSound base → Contains base.accounts.items account → AreSameAccount account copy
     → ShowsCell (setting_of base) (lazily_at (universe_of base) []) (AccountId account.player) (account_stand (record { second = base.moment; account = copy }))
-account-shows base account copy sound is equal = record {
-  second = refl;
-  seen = (λ i. record { own = of_account (record { techs = sym equal.techs i }); items = []; fleets = []; planets = sym equal.planets i; units = sym equal.units i })
-      ∙ sym (account-shown base account sound is);
-}
+account-shows base account copy sound is equal =
+    let queue = fun_ext (account-queues account copy equal) in
+    record {
+      second = refl;
+      seen = (λ i. record { own = of_account (record { techs = sym equal.techs i }); queue = queue i; fleets = []; planets = sym equal.planets i; units = sym equal.units i })
+          ∙ sym (account-shown base account sound is);
+    }
 
+-- so does one of a planet
 planet-shows : (base : Base) (planet copy : Planet) → IsSound base → Contains base.planets.items planet → AreSame planet copy
     → ShowsCell (setting_of base) (lazily_at (universe_of base) []) (PlanetId planet.at) (planet_stand (record { second = base.moment; planet = copy }))
-planet-shows base planet copy sound is same = record {
-  second = refl;
-  seen = (λ i. record { own = of_planet (sym same.fields i); items = map (item_of (sym same.at i)) (sym same.items i); fleets = []; planets = []; units = 0 })
-      ∙ sym (planet-shown base planet sound is);
-}
+planet-shows base planet copy sound is same =
+    let queue = fun_ext (planet-queues planet copy same) in
+    record {
+      second = refl;
+      seen = (λ i. record { own = of_planet (sym same.fields i); queue = queue i; fleets = []; planets = []; units = 0 }) ∙ sym (planet-shown base planet sound is);
+    }
 
 taken-more : {A : Type 0} (f : A → CellId) (front : List CellId) (xs : List A) (i : ℕ) (x : A) → i < length xs → x ≡ get_or xs i x
     → (front ++ map f (take i xs)) ++ f x ∷ [] ≡ front ++ map f (take (i + 1) xs)

@@ -7,7 +7,9 @@ pub mod Texts
 pub mod Coursing
 pub mod Waiting
 pub mod Outcoming
+pub mod Counting
 pub mod Showing
+pub mod Counted
 pub mod Answering
 pub mod Ending
 pub mod Samples

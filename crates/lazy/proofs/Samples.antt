@@ -1,22 +1,24 @@
 -- The base of the tests is sound, and a universe that is asked again and again keeps some history.
-use Rattle.std.proofs.Common.{◌≡◌, ℕ, ◌≤◌, ◌≢◌, true, List, [], ◌∷◌, ◌++◌, map, refl, ap, ◌∙◌, sym, subst, arith}
+use Rattle.std.proofs.Common.{◌≡◌, ℕ, ◌+◌, ◌≤◌, true, false, List, [], ◌∷◌, ◌++◌, length, map, sum_by, refl, ap, ◌∙◌, sym, subst, arith}
 use Rattle.std.proofs.lemmas.List.Elements.{All-cons}
 use Rattle.std.proofs.lemmas.List.Kept.{AllPairs-cons}
 use Rattle.std.specs.Prelude.{All, AllPairs, sum}
 use Rattle.std.specs.List.{Contains}
+use Rattle.account_cell.specs.Account.{research_item, research_of}
 use Rattle.account_cell.specs.declared.account.Account.{Account}
 use Rattle.base_bytes.specs.Base.{all_items}
-use Rattle.base_bytes.specs.Sound.{IsSound, RunsAfter, planets_owned}
+use Rattle.base_bytes.specs.Sound.{IsSound, RunsAfter, planets_owned, units_counted}
 use Rattle.base_bytes.specs.declared.base.Base.{Base}
 use Rattle.base_bytes.proofs.Owned.{player-same}
 use Rattle.base_ids.specs.Order.{coord_before, player_before}
 use Rattle.base_ids.specs.declared.player.Player.{Player}
-use Rattle.planet_cell.specs.Planet.{item_of}
-use Rattle.planet_cell.specs.declared.building_item.BuildingItem.{BuildingItem}
+use Rattle.catalog.specs.declared.classes.TheConstants.{UNIT_KINDS}
+use Rattle.planet_cell.specs.Planet.{batch_item_of, batches_of, buildings_of, item_of}
 use Rattle.planet_cell.specs.declared.planet.Planet.{Planet}
 use Rattle.reply_text.specs.declared.reply.Reply.{Reply}
 use Rattle.request_text.specs.declared.request.Request.{Request}
-use Rattle.tick_model.specs.Universe.{Item}
+use Rattle.tick_model.specs.Rules.{same_order}
+use Rattle.tick_model.specs.Views.{units_left}
 use Rattle.lazy.specs.Keeping.{Asks, KeepsSome}
 use Rattle.lazy.specs.declared.universe.LazyUniverse.{LazyUniverse}
 
@@ -38,28 +40,48 @@ two-all P xs x y is first second = subst (All P) (sym is) (All-cons P x (y ∷ [
 two-pairs : {A : Type 0} (R : A → A → Type 0) (xs : List A) (x y : A) → xs ≡ x ∷ y ∷ [] → R x y → AllPairs R xs
 two-pairs R xs x y is both = subst (AllPairs R) (sym is) (AllPairs-cons R x (y ∷ []) (one-all (R x) (y ∷ []) y refl both) (one-pairs R (y ∷ []) y refl))
 
--- one account with two planets that have no units and build nothing
+-- a planet without units, whose yard builds none, counts none
+uncounted : (planet : Planet) → sum planet.units ≡ 0 → planet.yard.items ≡ [] → units_counted planet ≡ 0
+uncounted planet none empty = (λ i. none i + units_left (map (batch_item_of planet.at) (empty i)))
+
+-- a planet that has no units and builds nothing
+pub record IsIdle (planet : Planet) : Type 0 where
+  pub kinds : length planet.units ≡ length UNIT_KINDS
+  pub units : sum planet.units ≡ 0
+  pub buildings : planet.buildings.items ≡ []
+  pub yard : planet.yard.items ≡ []
+
+-- one account that researches nothing, with two idle planets
 pub sound_two : (base : Base) (account : Account) (one two : Planet) → base.accounts.items ≡ account ∷ [] → base.planets.items ≡ one ∷ two ∷ []
-    → account.planets.items ≡ one.at ∷ two.at ∷ [] → account.units ≡ 0 → one.owner ≡ account.player → two.owner ≡ account.player → sum one.units ≡ 0 → sum two.units ≡ 0
-    → coord_before one.at two.at ≡ true → one.buildings.items ≡ [] → two.buildings.items ≡ [] → IsSound base
-sound_two base account one two accounts planets listed counted first second no_units none_more rises queue later =
+    → account.planets.items ≡ one.at ∷ two.at ∷ [] → account.units ≡ 0 → account.research.items ≡ [] → one.owner ≡ account.player → two.owner ≡ account.player
+    → coord_before one.at two.at ≡ true → IsIdle one → IsIdle two → IsSound base
+sound_two base account one two accounts planets listed counted research first second rises idle idle_too =
     let players = λ (p : Planet) (same : p.owner ≡ account.player).
     subst (λ (xs : List Account). Contains (map (λ (a : Account). a.player) xs) p.owner) (sym accounts) (0, (omega arith), sym same) in
     let owned : planets_owned account.player base.planets.items ≡ one ∷ two ∷ [] =
     ap (planets_owned account.player) planets ∙ rw (player-same one.owner account.player first, player-same two.owner account.player second) refl in
-    let empty : all_items base.planets.items ≡ [] = ap all_items planets ∙ (λ i. map (item_of one.at) (queue i) ++ (map (item_of two.at) (later i) ++ [])) in
-    let runs = λ (p : Planet) (none : p.buildings.items ≡ []). subst (RunsAfter base.moment) (sym none) tt in
+    let empty : all_items base.accounts.items base.planets.items ≡ [] = (λ i. all_items (accounts i) (planets i))
+    ∙ (λ i. (map (research_item account.player) (research i) ++ [])
+    ++ ((map (item_of one.at) (idle.buildings i) ++ map (batch_item_of one.at) (idle.yard i)) ++ ((map (item_of two.at) (idle_too.buildings i) ++ map (batch_item_of two.at) (idle_too.yard i)) ++ []))) in
+    let builds = λ (p : Planet) (none : p.buildings.items ≡ []). subst (λ items. RunsAfter base.moment (map (item_of p.at) items)) (sym none) tt in
+    let mans = λ (p : Planet) (none : p.yard.items ≡ []). subst (λ items. RunsAfter base.moment (map (batch_item_of p.at) items)) (sym none) tt in
     record {
       accounts_rise = one-pairs (λ a b. player_before a.player b.player ≡ true) base.accounts.items account accounts;
       planets_rise = two-pairs (λ a b. coord_before a.at b.at ≡ true) base.planets.items one two planets rises;
       owned = two-all (λ p. Contains (map (λ (a : Account). a.player) base.accounts.items) p.owner) base.planets.items one two planets (players one first) (players two second);
+      kinds = two-all (λ p. length p.units ≡ length UNIT_KINDS) base.planets.items one two planets idle.kinds idle_too.kinds;
       listed = one-all (λ a. a.planets.items ≡ map (λ (p : Planet). p.at) (planets_owned a.player base.planets.items)) base.accounts.items account accounts
           (listed ∙ sym (ap (map (λ (p : Planet). p.at)) owned));
-      counted = one-all (λ a. a.units ≡ sum (map (λ (p : Planet). sum p.units) (planets_owned a.player base.planets.items))) base.accounts.items account accounts
-          (counted ∙ sym (ap (λ ps. sum (map (λ (p : Planet). sum p.units) ps)) owned ∙ (λ i. sum (no_units i ∷ none_more i ∷ []))));
-      running = two-all (λ p. RunsAfter base.moment p.buildings.items) base.planets.items one two planets (runs one queue) (runs two later);
-      drawn = none-all (λ item. (1 ≤ item.number) × (item.number ≤ base.number)) (all_items base.planets.items) empty;
-      distinct = none-pairs (λ a b. a.number ≢ b.number) (all_items base.planets.items) empty;
+      counted = one-all (λ a. a.units ≡ sum_by units_counted (planets_owned a.player base.planets.items)) base.accounts.items account accounts
+          (counted ∙ sym (ap (sum_by units_counted) owned ∙ (λ i. (0 + uncounted one idle.units idle.yard i) + uncounted two idle_too.units idle_too.yard i)));
+      at_home = one-all (λ a. All (λ item. Contains a.planets.items item.at) a.research.items) base.accounts.items account accounts
+          (none-all (λ item. Contains account.planets.items item.at) account.research.items research);
+      built = two-all (λ p. RunsAfter base.moment (buildings_of p)) base.planets.items one two planets (builds one idle.buildings) (builds two idle_too.buildings);
+      manned = two-all (λ p. RunsAfter base.moment (batches_of p)) base.planets.items one two planets (mans one idle.yard) (mans two idle_too.yard);
+      researched = one-all (λ a. RunsAfter base.moment (research_of a)) base.accounts.items account accounts
+          (subst (λ items. RunsAfter base.moment (map (research_item account.player) items)) (sym research) tt);
+      drawn = none-all (λ item. (1 ≤ item.number) × (item.number ≤ base.number)) (all_items base.accounts.items base.planets.items) empty;
+      distinct = none-pairs (λ a b. same_order a b ≡ false) (all_items base.accounts.items base.planets.items) empty;
     }
 
 -- a universe that kept some history keeps some after it was asked

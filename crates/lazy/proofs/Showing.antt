@@ -1,7 +1,7 @@
 -- What a request can go by in the universe that held cells show: the parts that are taken from them.
 use Rattle.std.proofs.Common.{◌≡◌, ℕ, Bool, true, false, cond, ◌&&◌, ◌||◌, refl, ap, ◌∙◌, sym, inl, inr, Option, Some, None}
 use Rattle.std.proofs.lemmas.Map.Views.{list_any-from_Contains}
-use Rattle.std.specs.Prelude.{IfSome, is_some, option_map}
+use Rattle.std.specs.Prelude.{IfSome, MatchOption, is_some, option_map}
 use Rattle.std.specs.BTreeMap.{get}
 use Rattle.base_ids.specs.Cells.{same_cell}
 use Rattle.base_ids.specs.declared.cell_id.CellId.{CellId}
@@ -9,9 +9,9 @@ use Rattle.base_ids.specs.declared.cell_id.CellId.TheVariants.{Account, Planet}
 use Rattle.base_ids.specs.declared.coord.Coord.{Coord}
 use Rattle.base_ids.specs.declared.player.Player.{Player}
 use Rattle.closure.specs.declared.places.Places.{Places}
-use Rattle.happenings.proofs.Standing.{queue-is}
 use Rattle.happenings.specs.Held.{Shows, ShowsCell, Stand, account_stand, held_at, holds, planet_stand}
 use Rattle.happenings.specs.Orders.{place_order, player_order}
+use Rattle.happenings.specs.Queues.{seen_of}
 use Rattle.happenings.specs.declared.held.AccountCell.{AccountCell}
 use Rattle.happenings.specs.declared.held.Held.{Held}
 use Rattle.happenings.specs.declared.held.PlanetCell.{PlanetCell}
@@ -20,25 +20,28 @@ use Rattle.laziness.specs.Laws.{IsReady}
 use Rattle.laziness.specs.Stamps.{Stamps, brought}
 use Rattle.lazy.proofs.Outcoming.{at_number}
 use Rattle.lazy.specs.Planning.{CanAnswer, HoldsSame}
-use Rattle.lazy.specs.Taking.{AreTaken, IsTaken, seen_by, seen_of}
-use Rattle.orders.specs.Acting.{AreShown, IsSeenAs, place_named, queue_of}
+use Rattle.lazy.proofs.Stepping.{is_named, names-place}
+use Rattle.lazy.specs.Taking.{AreTaken, IsTaken, seen_by}
+use Rattle.orders.specs.Acting.{AreShown, IsSeenAs, place_named}
 use Rattle.orders.specs.declared.parts.Parts.{Parts}
-use Rattle.planet_cell.specs.declared.planet.Planet.{Planet as PlanetOfProgram}
 use Rattle.request_text.specs.declared.entry.Entry.{Entry}
 use Rattle.request_text.specs.declared.request.Request.{Request}
-use Rattle.request_text.specs.declared.request.Request.TheVariants.{Planet as PlanetOf, Build, Set}
 use Rattle.tick_model.proofs.Keeping.{game_cells}
-use Rattle.tick_model.proofs.Lists.{and-from, and-is, cell-from, cell-is, cell-itself, cell-turned, fails}
+use Rattle.tick_model.proofs.Lists.{and-from, and-is, cell-is, cell-itself, cell-turned, fails}
 use Rattle.tick_model.specs.Game.{game}
 use Rattle.tick_model.specs.Requests.{asked, is_listed, is_there, names}
 use Rattle.tick_model.specs.Step.{sight_of}
-use Rattle.tick_model.specs.Universe.{Buildings, Setting, State}
-use Rattle.tick_model.specs.Views.{View, nothing_seen, queue, shown, view}
+use Rattle.tick_model.specs.Universe.{Setting, State}
+use Rattle.tick_model.specs.Views.{View, nothing_seen, shown, view}
 use Rattle.tick_model.specs.declared.rules.Rules.{Rules}
 
 pub if_some_is : {A : Type 0} (o : Option A) (P Q : A → Type 0) → ((x : A) → o ≡ Some x → P x → Q x) → IfSome o P → IfSome o Q
 if_some_is None P Q f p = tt
 if_some_is (Some x) P Q f p = f x refl p
+
+matched-some : {A : Type 0} (o : Option A) (N : Type 0) (P Q : A → Type 0) → ((x : A) → o ≡ Some x → P x → Q x) → MatchOption o N P → IfSome o Q
+matched-some None N P Q f p = tt
+matched-some (Some x) N P Q f p = f x refl p
 
 -- what is held is there
 held-there : (held : Held) (cell : CellId) → holds held cell ≡ true → is_there (seen_of (held_at held cell)).own ≡ true
@@ -64,16 +67,6 @@ seen-none (Some stand) none = never true refl none
 shown-as : (b : Bool) (o : Option Stand) (seen : View) → IfSome o (λ stand. stand.seen ≡ seen) → (is_some o ≡ true → b ≡ true) → (b ≡ true → is_some o ≡ true) → cond b seen nothing_seen ≡ seen_of o
 shown-as true o seen is asks holds = sym (seen-as o seen (holds refl) is)
 shown-as false o seen is asks holds = sym (seen-none o (fails (is_some o) (λ there. never false (asks there) refl)))
-
-names-place : (seen : CellId → View) (req : Request) (at : Coord) → place_named req ≡ Some at → names seen req (Planet at) ≡ true
-names-place seen (PlanetOf place) at is = cell-from (Planet place) (Planet at) (cc is)
-names-place seen (Build place building) at is = cell-from (Planet place) (Planet at) (cc is)
-names-place seen (Set place work tenths) at is = cell-from (Planet place) (Planet at) (cc is)
-names-place seen _ at is = absurd (cc is)
-
-queue-whole : (planet : Option PlanetOfProgram) → queue Buildings (queue_of planet) ≡ queue_of planet
-queue-whole None = refl
-queue-whole (Some planet) = queue-is planet.at planet.buildings.items
 
 -- an entry with this request
 abbrev pub entry_of : Player → Request → ℕ → Entry
@@ -122,7 +115,7 @@ module _ (setting : Setting) (kept : Rules) (places : Places) (held : Held) (pla
   either true b is = refl
   either false b is = is
 
-  shown-account : shown asks seen (Account player) ≡ seen_by now player (Account player)
+  pub shown-account : shown asks seen (Account player) ≡ seen_by now player (Account player)
   shown-account =
       let all = shown-as (asks (Account player)) (held_at now (Account player)) (seen (Account player)) (held-seen (Account player))
       (λ there. caller-asked (held-listed (Account player) there)) (asked-held (Account player)) in
@@ -131,12 +124,15 @@ module _ (setting : Setting) (kept : Rules) (places : Places) (held : Held) (pla
         | inr none ↦ all ∙ seen-none (held_at now (Account player)) none ∙ sym (ap (λ b. cond b (seen_of (held_at now (Account player))) nothing_seen) none)
       ]
 
+  named-there : (at : Coord) → place_named req ≡ Some at → names seen req (Planet at) ≡ true
+  named-there at named = names-place seen req (Planet at) ∙ ap (λ place. is_named place (Planet at)) named ∙ cell-itself (Planet at)
+
   shown-place : (at : Coord) → place_named req ≡ Some at → shown asks seen (Planet at) ≡ seen_by now player (Planet at)
   shown-place at named =
       elim (test (holds now (Account player))) [
         | inl there ↦
             shown-as (asks (Planet at)) (held_at now (Planet at)) (seen (Planet at)) (held-seen (Planet at))
-            (λ held. asked-from (Planet at) (held-listed (Account player) there) (held-listed (Planet at) held) (either (same_cell (Account player) (Planet at)) (names seen req (Planet at)) (names-place seen req at named)))
+            (λ held. asked-from (Planet at) (held-listed (Account player) there) (held-listed (Planet at) held) (either (same_cell (Account player) (Planet at)) (names seen req (Planet at)) (named-there at named)))
             (asked-held (Planet at))
             ∙ sym (ap (λ b. cond b (seen_of (held_at now (Planet at))) nothing_seen) there)
         | inr none ↦
@@ -154,12 +150,8 @@ module _ (setting : Setting) (kept : Rules) (places : Places) (held : Held) (pla
     moment_is = refl;
     number_is = refl;
     whose = taken.whose;
-    caller = ap (λ (v : View). v.own) shown-account ∙ taken.caller;
-    from = if_some_is (place_named req) (λ at. IsTaken (seen_by now player (Planet at)) at parts.from)
+    caller = shown-account ∙ taken.caller;
+    from = matched-some (place_named req) (parts.from ≡ None) (λ at. IsTaken (seen_by now player (Planet at)) at parts.from)
         (λ at. IsSeenAs (at_number 0 (sight_of setting player req moment brought_state)) at parts.from)
-        (λ at named place. record {
-          place = place.place;
-          own = ap (λ (v : View). v.own) (shown-place at named) ∙ place.own;
-          queue = ap (λ (v : View). queue Buildings v.items) (shown-place at named) ∙ ap (queue Buildings) place.queue ∙ queue-whole parts.from;
-        }) taken.from;
+        (λ at named place. record { place = place.place; seen = shown-place at named ∙ place.seen }) taken.from;
   }

@@ -17,10 +17,9 @@ use Rattle.happenings.specs.Orders.{player_order}
 use Rattle.happenings.specs.declared.held.AccountCell.{AccountCell}
 use Rattle.happenings.specs.declared.held.Held.{Held}
 use Rattle.happenings.specs.declared.held.PlanetCell.{PlanetCell}
-use Rattle.happenings.proofs.Standing.{queue-is}
 use Rattle.laziness.specs.Stamps.{Stamps}
 use Rattle.laziness.proofs.Bringing.{never}
-use Rattle.planet_cell.specs.Planet.{fields_of, items_of}
+use Rattle.planet_cell.specs.Planet.{fields_of, queue_of}
 use Rattle.request_text.specs.declared.entry.Entry.{Entry}
 use Rattle.reply_text.specs.Words.{line}
 use Rattle.tick_model.specs.Dump.{cell_line, cell_text, cells_text, dump_text}
@@ -58,12 +57,11 @@ account-there setting held old new player cell named found told =
 
 -- and so has a planet
 pub planet-there : (setting : Setting) (rules : Rules) (cell : PlanetCell) (old middle new lines : List ℕ) → setting.rules ≡ rules → middle ≡ old ++ cell_line (Planet cell.planet.at) cell.second
-    → lines ≡ planet_text rules.speed cell.planet.at (fields_of cell.planet) (items_of cell.planet) → new ≡ middle ++ lines
+    → lines ≡ planet_text rules.speed cell.planet.at (fields_of cell.planet) (queue_of cell.planet) → new ≡ middle ++ lines
     → new ≡ old ++ stand_text setting (Planet cell.planet.at) (Some (planet_stand cell))
 planet-there setting rules cell old middle new lines same named told more =
-    let queued = queue-is cell.planet.at cell.planet.buildings.items in
-    more ∙ (λ i. named i ++ told i) ∙ append_assoc old (cell_line (Planet cell.planet.at) cell.second) (planet_text rules.speed cell.planet.at (fields_of cell.planet) (items_of cell.planet))
-    ∙ (λ i. old ++ (cell_line (Planet cell.planet.at) cell.second ++ planet_text (sym same i).speed cell.planet.at (fields_of cell.planet) (sym queued i)))
+    more ∙ (λ i. named i ++ told i) ∙ append_assoc old (cell_line (Planet cell.planet.at) cell.second) (planet_text rules.speed cell.planet.at (fields_of cell.planet) (queue_of cell.planet))
+    ∙ (λ i. old ++ (cell_line (Planet cell.planet.at) cell.second ++ planet_text (sym same i).speed cell.planet.at (fields_of cell.planet) (queue_of cell.planet)))
 
 -- an account that isn't held has none
 pub account-missing : (setting : Setting) (held : Held) (old new : List ℕ) (player : Player) → get player_order held.accounts player ≡ None
@@ -79,7 +77,7 @@ stand-shown setting f cell (Some stand) shows held =
     (λ i. cell_line cell (shows.second i) ++ cell_text setting cell (shows.seen i) (shows.seen i).own)
 
 -- cells that are held and show a universe have its text
-texts-same : (setting : Setting) (f : Stamps (game setting)) (held : Held) (names : List CellId) → Shows setting held f → ((cell : CellId) → is_listed names cell ≡ true → holds held cell ≡ true)
+pub texts-same : (setting : Setting) (f : Stamps (game setting)) (held : Held) (names : List CellId) → Shows setting held f → ((cell : CellId) → is_listed names cell ≡ true → holds held cell ≡ true)
     → held_text setting held names ≡ cells_text setting f.at (view setting.cells f.universe) names
 texts-same setting f held [] shows all = refl
 texts-same setting f held (cell ∷ names) shows all =

@@ -8,6 +8,7 @@ mod planning;
 mod universe;
 
 pub use advancing::advance;
+pub use dumping::text_of;
 pub use planning::{Plan, prepare};
 pub use universe::{LazyUniverse, Prepared};
 

@@ -1,22 +1,24 @@
 ghost use Rattle.std.specs.Prelude.{◌≡◌, ◌≤◌, IfOk, OnOk};
 ghost use Rattle.base_ids.specs.declared.cell_id.CellId.{CellId};
 ghost use Rattle.base_ids.specs.declared.cell_id.CellId.TheVariants.{Planet as PlanetId};
+ghost use Rattle.closure.specs.declared.places.Places.{Places};
 ghost use Rattle.happenings.specs.Held.{IsNamed, held_at};
 ghost use Rattle.happenings.specs.Numbering.{numbered_at};
+ghost use Rattle.happenings.specs.Queues.{seen_held};
 ghost use Rattle.laziness.specs.Stamps.{Stamps};
 ghost use Rattle.lazy.specs.Planning.{CanAnswer, IsAnswered};
-ghost use Rattle.lazy.specs.Plans.{IsPlan, place_ordered};
-ghost use Rattle.lazy.specs.Taking.{AreTaken, IsTaken, PutsBack, seen_by, seen_of};
+ghost use Rattle.lazy.specs.Plans.{IsPlan, queue_ordered};
+ghost use Rattle.lazy.specs.Taking.{AreTaken, IsTaken, PutsAccount, PutsPlanet, seen_by};
 ghost use Rattle.orders.specs.Acting.{place_named};
 ghost use Rattle.ports.specs.declared.clock.TheConstants.{LATEST};
 ghost use Rattle.tick_model.specs.Game.{game};
 ghost use Rattle.tick_model.specs.Universe.{Setting};
 
 use crate::advancing::advance;
+use account_cell::Account;
 use base_ids::{Coord, Player};
 use base_text::Bytes;
-use closure::Places;
-use happenings::{Held, PlanetCell};
+use happenings::{AccountCell, Held, PlanetCell, Queue};
 use orders::{Parts, act};
 use planet_cell::Planet;
 use reply_text::Reply;
@@ -31,8 +33,8 @@ pub struct Plan {
     moment: u64,
     code: u8,
     body: Bytes,
-    // The planet whose last building bears the number.
-    ordered: Option<Coord>,
+    // The queue whose last item bears the number.
+    ordered: Option<Queue>,
 }
 
 impl Plan {
@@ -62,21 +64,20 @@ impl Plan {
 /// Works out a request at a moment of at most 2^40 − 1 seconds on copies of the cells that it needs. It fails only if memory runs
 /// out.
 ///
-/// A building that it orders bears the number 0 until the plan is finished.
+/// An item that it orders bears the number 0 until the plan is finished.
 pub fn prepare(
     alloc: Global,
     rules: &Rules,
-    _places: &Places,
     cells: &Held,
     player: Player,
     req: &Request,
     moment: u64,
 ) -> Result<Plan, AllocError>
-    requires can { (setting : Setting) × (f : Stamps (game setting)) × CanAnswer setting rules.now _places.now cells.now player req.now moment f }
+    requires can { (setting : Setting) × (places : Places) × (f : Stamps (game setting)) × CanAnswer setting rules.now places cells.now player req.now moment f }
     requires named { IsNamed cells.now }
     requires in_time { moment ≤ LATEST }
-    ensures { IfOk result (λ plan. (setting : Setting) (f : Stamps (game setting))
-        → CanAnswer setting rules.now _places.now cells.now player req.now moment f → IsPlan setting cells.now player req.now moment f plan) }
+    ensures { IfOk result (λ plan. (setting : Setting) (places : Places) (f : Stamps (game setting))
+        → CanAnswer setting rules.now places cells.now player req.now moment f → IsPlan setting cells.now player req.now moment f plan) }
 {
     let mut cells = advance(alloc, rules, cells, moment)?;
     let mut parts = take_parts(&cells, player, req)?;
@@ -90,23 +91,24 @@ pub fn prepare(
             ordered: None,
         });
     }
-    put_back(&mut cells, parts.from, moment)?;
+    put_account(&mut cells, parts.caller, moment)?;
+    put_planet(&mut cells, place_named(req), parts.from, moment)?;
     Ok(Plan {
         cells,
         moment,
         code: acted.code,
         body: acted.body,
-        ordered: place_ordered(req),
+        ordered: queue_ordered(player, req),
     })
 }
 
-/// Gives a number to the last building of the planet at a place, if one is named.
-fn number_ordered(cells: &mut Held, ordered: Option<Coord>, number: u64)
+/// Gives a number to the last item of a queue, if one is named.
+fn number_ordered(cells: &mut Held, ordered: Option<Queue>, number: u64)
     ensures numbers { (cell : CellId) → held_at cells.new cell ≡ numbered_at number ordered cells.old cell }
     ensures named { IsNamed cells.old → IsNamed cells.new }
 {
-    if let Some(at) = ordered {
-        cells.number_last(at, number);
+    if let Some(queue) = ordered {
+        cells.number_last(queue, number);
     }
 }
 
@@ -132,7 +134,7 @@ fn take_parts(cells: &Held, player: Player, req: &Request) -> Result<Parts, Allo
 /// The planet at a place, in memory of its own, if it is held.
 fn take_planet(cells: &Held, at: Coord) -> Result<Option<Planet>, AllocError>
     requires { IsNamed cells.now }
-    ensures { IfOk result (IsTaken (seen_of (held_at cells.now (PlanetId at))) at) }
+    ensures { IfOk result (IsTaken (seen_held cells.now (PlanetId at)) at) }
 {
     match cells.planet(at) {
         Some(cell) => Ok(Some(cell.planet.copy()?)),
@@ -145,31 +147,56 @@ fn place_named(req: &Request) -> Option<Coord>
     ensures { result ≡ place_named req.now }
 {
     match req {
-        Request::Planet(at) | Request::Build(at, _) | Request::Set(at, _, _) => Some(*at),
+        Request::Planet(at)
+        | Request::Build(at, _)
+        | Request::Research(at, _)
+        | Request::Yard(at, _, _)
+        | Request::Set(at, _, _) => Some(*at),
         _ => None,
     }
 }
 
-/// The place at which a request orders a building.
-fn place_ordered(req: &Request) -> Option<Coord>
-    ensures { result ≡ place_ordered req.now }
+/// The queue whose last item is what a player's request orders, if it is granted.
+fn queue_ordered(player: Player, req: &Request) -> Option<Queue>
+    ensures { result ≡ queue_ordered player req.now }
 {
     match req {
-        Request::Build(at, _) => Some(*at),
+        Request::Build(at, _) => Some(Queue::Buildings(*at)),
+        Request::Research(_, _) => Some(Queue::Research(player)),
+        Request::Yard(at, _, _) => Some(Queue::Yard(*at)),
         _ => None,
     }
 }
 
-/// Holds the planet at its place at a moment, if there is one. It fails only if memory runs out.
-fn put_back(cells: &mut Held, planet: Option<Planet>, moment: u64) -> Result<(), AllocError>
-    ensures puts { OnOk result (PutsBack planet moment cells.old cells.new) }
+/// Holds the account at a moment, if there is one. It fails only if memory runs out.
+fn put_account(cells: &mut Held, account: Option<Account>, moment: u64) -> Result<(), AllocError>
+    ensures puts { OnOk result (PutsAccount account moment cells.old cells.new) }
     ensures named { OnOk result (IsNamed cells.old → IsNamed cells.new) }
 {
-    match planet {
-        Some(planet) => cells.put_planet(PlanetCell {
+    match account {
+        Some(account) => cells.put_account(AccountCell {
+            second: moment,
+            account,
+        }),
+        None => Ok(()),
+    }
+}
+
+/// Holds the planet at a moment, if a place was named and a planet stands there. It fails only if memory runs out.
+fn put_planet(
+    cells: &mut Held,
+    named: Option<Coord>,
+    planet: Option<Planet>,
+    moment: u64,
+) -> Result<(), AllocError>
+    ensures puts { OnOk result (PutsPlanet named planet moment cells.old cells.new) }
+    ensures named { OnOk result (IsNamed cells.old → IsNamed cells.new) }
+{
+    match (named, planet) {
+        (Some(_), Some(planet)) => cells.put_planet(PlanetCell {
             second: moment,
             planet,
         }),
-        None => Ok(()),
+        _ => Ok(()),
     }
 }

@@ -1,7 +1,8 @@
 // What no clause says: that a request finds memory, and that a planet is the same however often it was asked for.
-ghost use Rattle.std.specs.Prelude.{◌≡◌, ◌≤◌, [], ◌∷◌, true, IfOk, sum};
+ghost use Rattle.std.specs.Prelude.{◌≡◌, ◌≤◌, [], ◌∷◌, true, IfOk, length, sum};
 ghost use Rattle.base_bytes.specs.Sound.{IsSound};
 ghost use Rattle.base_ids.specs.Order.{coord_before};
+ghost use Rattle.catalog.specs.declared.classes.TheConstants.{UNIT_KINDS};
 ghost use Rattle.ports.specs.declared.clock.TheConstants.{LATEST};
 ghost use Rattle.lazy.specs.Keeping.{KeepsSome};
 
@@ -9,7 +10,7 @@ use crate::LazyUniverse;
 use account_cell::Account;
 use base_bytes::Base;
 use base_ids::{Coord, LAST_NUMBER, Player};
-use catalog::{Building, Kind, Techs};
+use catalog::{Building, Count, Kind, Technology, Techs, Unit};
 use planet_cell::Planet;
 use rates::{GRAINS, Resources};
 use reply_text::Reply;
@@ -27,12 +28,14 @@ const MINE: Building = Building {
     kind: Kind::MetalMine,
 };
 
-/// A planet of player 1 without buildings, with 500 metal and 500 crystal.
+/// A planet of player 1 without buildings, with 9000 units of each resource.
 fn planet(alloc: Global, at: Coord) -> Planet
     ensures at { result.at ≡ at }
     ensures owner { result.owner.k ≡ 1 }
+    ensures kinds { length result.units ≡ length UNIT_KINDS }
     ensures units { sum result.units ≡ 0 }
-    ensures queue { result.buildings.items ≡ [] }
+    ensures buildings { result.buildings.items ≡ [] }
+    ensures yard { result.yard.items ≡ [] }
 {
     Planet {
         at,
@@ -42,9 +45,9 @@ fn planet(alloc: Global, at: Coord) -> Planet
         levels: [0; 11],
         tenths: [10; 5],
         stock: Resources {
-            metal: GRAINS * 500,
-            crystal: GRAINS * 500,
-            deuterium: 0,
+            metal: GRAINS * 9000,
+            crystal: GRAINS * 9000,
+            deuterium: GRAINS * 9000,
         },
         debris: Debris {
             metal: 0,
@@ -52,6 +55,7 @@ fn planet(alloc: Global, at: Coord) -> Planet
         },
         units: [0; 22],
         buildings: Vec::new(alloc),
+        yard: Vec::new(alloc),
     }
 }
 
@@ -60,12 +64,14 @@ fn account(alloc: Global, first: Coord, second: Coord) -> Result<Account, AllocE
     ensures player { IfOk result (λ account. account.player.k ≡ 1) }
     ensures planets { IfOk result (λ account. account.planets.items ≡ first ∷ second ∷ []) }
     ensures units { IfOk result (λ account. account.units ≡ 0) }
+    ensures research { IfOk result (λ account. account.research.items ≡ []) }
 {
     Ok(Account {
         player: Player { k: 1 },
         techs: Techs { n: [0; 14] },
         planets: vec![in alloc; first, second]?,
         units: 0,
+        research: Vec::new(alloc),
     })
 }
 
@@ -137,11 +143,56 @@ fn a_planet_is_the_same_however_often_it_was_asked_for(rt: HostRuntime) -> Resul
     )?;
     assert_eq!(rt;
         often.body.as_slice(),
-        b"planet 1:1:1 1 40 163 1\nstock 460 495 0\nhourly 20 10 0\nlimit 10000 10000 10000\nenergy 0 11\ndebris 0 0\nlevel metalmine 1\n".as_slice(),
+        b"planet 1:1:1 1 40 163 1\nstock 8960 8995 9000\nhourly 20 10 0\nlimit 10000 10000 10000\nenergy 0 11\ndebris 0 0\nlevel metalmine 1\n".as_slice(),
     );
     assert_eq!(rt;
         once.body.as_slice(),
-        b"planet 1:1:2 1 40 163 1\nstock 460 495 0\nhourly 20 10 0\nlimit 10000 10000 10000\nenergy 0 11\ndebris 0 0\nlevel metalmine 1\n".as_slice(),
+        b"planet 1:1:2 1 40 163 1\nstock 8960 8995 9000\nhourly 20 10 0\nlimit 10000 10000 10000\nenergy 0 11\ndebris 0 0\nlevel metalmine 1\n".as_slice(),
+    );
+    Ok(())
+}
+
+#[test]
+fn research_and_a_batch_are_ordered(rt: HostRuntime) -> Result<(), Fail> {
+    let robotics = Request::Build(
+        FIRST,
+        Building {
+            kind: Kind::Robotics,
+        },
+    );
+    let lab = Request::Build(FIRST, Building { kind: Kind::Lab });
+    let shipyard = Request::Build(
+        FIRST,
+        Building {
+            kind: Kind::Shipyard,
+        },
+    );
+    let energy = Request::Research(FIRST, Technology { kind: Kind::Energy });
+    let launchers = Request::Yard(
+        FIRST,
+        Unit {
+            kind: Kind::Launcher,
+        },
+        Count { n: 2 },
+    );
+    let mut universe = LazyUniverse::new(rt.alloc(), &base(rt.alloc(), FIRST, SECOND)?)?;
+    ask(&rt, rt.alloc(), &mut universe, robotics, 0)?;
+    ask(&rt, rt.alloc(), &mut universe, robotics, 0)?;
+    ask(&rt, rt.alloc(), &mut universe, lab, 0)?;
+    ask(&rt, rt.alloc(), &mut universe, shipyard, 2000)?;
+    let research = ask(&rt, rt.alloc(), &mut universe, energy, 3000)?;
+    assert_eq!(rt; research.body.as_slice(), b"starts 1 4440\n".as_slice());
+    let batch = ask(&rt, rt.alloc(), &mut universe, launchers, 3000)?;
+    assert_eq!(rt; batch.body.as_slice(), b"starts 2 4440\n".as_slice());
+    let before = ask(&rt, rt.alloc(), &mut universe, Request::Account, 4439)?;
+    assert_eq!(rt;
+        before.body.as_slice(),
+        b"account 1 2 0 1\nplanet 1:1:1\nplanet 1:1:2\nresearch 5 energy 1 4440 1:1:1\n".as_slice(),
+    );
+    let after = ask(&rt, rt.alloc(), &mut universe, Request::Account, 4440)?;
+    assert_eq!(rt;
+        after.body.as_slice(),
+        b"account 1 2 0 1\ntech energy 1\nplanet 1:1:1\nplanet 1:1:2\n".as_slice(),
     );
     Ok(())
 }

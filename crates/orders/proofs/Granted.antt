@@ -1,163 +1,279 @@
 -- What comes of a request about the caller's own planet.
-use Rattle.std.proofs.Common.{◌≡◌, ℕ, suc, ◌<◌, true, false, List, [], ◌∷◌, ◌++◌, ◌+◌, map, length, refl, ap, sym, subst, ◌∙◌, arith}
-use Rattle.std.specs.Prelude.{◌==◌, if◌then◌else◌, slice_set, Result, Ok, Err, IfOk}
-use Rattle.std.proofs.lemmas.List.{length_push}
+use Rattle.std.proofs.Common.{◌≡◌, ℕ, ◌<◌, ◌+◌, false, List, [], ◌∷◌, map, refl, ap, sym, subst, ◌∙◌, arith}
+use Rattle.std.specs.Prelude.{Some, ◌==◌, if◌then◌else◌, slice_set, Result, Ok, Err, IfOk}
 use Rattle.std.proofs.lemmas.Bool.Decides.{nat_tests}
-use Rattle.base_ids.specs.Cells.{same_cell}
+use Rattle.account_cell.specs.Account.{KeepsHoldings, KeepsResearch, account_fields, research_item, research_of}
+use Rattle.account_cell.specs.Queue.{new_research, research_ordered, research_placed}
+use Rattle.account_cell.specs.declared.account.Account.{Account}
 use Rattle.base_ids.specs.declared.cell_id.CellId.TheVariants.{Planet as PlanetId}
 use Rattle.base_ids.specs.declared.coord.Coord.{Coord}
 use Rattle.catalog.specs.Kinds.{place_in}
 use Rattle.catalog.specs.declared.classes.TheConstants.{WORKS}
 use Rattle.catalog.specs.declared.kind.Kind.{Kind}
-use Rattle.orders.specs.Granting.{IsOutcome, IsSeen, order_line}
+use Rattle.orders.proofs.Left.{batch_joins, building_joins, is_outcome, place_itself, research_joins, same_queues, unchanged}
+use Rattle.orders.specs.Acting.{planet_seen}
+use Rattle.orders.specs.Granting.{IsOutcome, IsSeen, order_line, research_paid}
 use Rattle.orders.specs.declared.parts.Acted.{Acted}
-use Rattle.planet_cell.specs.Planet.{AreSame, fields_of, item_of, items_of}
+use Rattle.planet_cell.specs.Planet.{AreSame, batch_item_of, batches_of, buildings_of, fields_of, item_of}
 use Rattle.planet_cell.specs.Queue.{new_item, ordered, placed, works_of}
-use Rattle.planet_cell.specs.declared.building_item.Placed.{Placed}
+use Rattle.planet_cell.specs.Yard.{batch_ordered, batch_placed, new_batch, yard_of}
 use Rattle.planet_cell.specs.declared.planet.Planet.{Planet}
-use Rattle.reply_text.specs.OrderLines.{starts_line, waits_line}
-use Rattle.tick_model.specs.Buildings.{Works, next_duration, pays, started}
-use Rattle.tick_model.specs.Changes.{new_buildings}
+use Rattle.tick_model.specs.Buildings.{Works, pays}
+use Rattle.tick_model.specs.Changes.{owns}
 use Rattle.tick_model.specs.Lines.{planet_text}
-use Rattle.tick_model.specs.Requests.{Outcome, Sight, buildings_at, builds, granted, ordered as ordered_at, queues, refused, sets, shows}
-use Rattle.tick_model.specs.Production.{level_of}
-use Rattle.tick_model.specs.Refusals.{build_refusal}
-use Rattle.tick_model.specs.Universe.{AccountFields, Item, PlanetFields, of_planet}
+use Rattle.tick_model.specs.Requests.{Outcome, Sight, builds, queues, queues_batch, queues_research, refused, researches, sets, shows, unless, with_planet, yards}
+use Rattle.tick_model.specs.Refusals.{build_refusal, research_refusal, yard_refusal}
+use Rattle.tick_model.specs.Researches.{pays_research}
+use Rattle.tick_model.specs.Universe.{AccountFields, Buildings, Item, PlanetFields, Researches, Yard, of_planet}
+use Rattle.tick_model.specs.Views.{View}
+use Rattle.tick_model.specs.Yards.{pays_batch}
+use Rattle.tick_model.specs.declared.placed.Placed.{Placed}
 use Rattle.tick_model.specs.declared.rules.Rules.{Rules}
 
 -- `planet C`
-pub shown : (sight : Sight) (rules : Rules) (moment : ℕ) (account : AccountFields) (planet : Planet) (acted : Acted) → IsSeen sight rules moment planet
-    → acted.code ≡ 0 → acted.body ≡ planet_text rules.speed planet.at (fields_of planet) (items_of planet) → IsOutcome sight (shows sight planet.at account (fields_of planet)) planet acted
+pub shown : (sight : Sight) (rules : Rules) (moment : ℕ) (account : Account) (planet : Planet) (acted : Acted) → IsSeen sight rules moment account planet
+    → acted.code ≡ 0 → acted.body ≡ planet_text rules.speed planet.at (fields_of planet) (planet_seen (Some planet)).queue
+    → IsOutcome sight 0 (shows sight planet.at (account_fields account) (fields_of planet)) account planet acted
 shown sight rules moment account planet acted seen code body =
-    record {
-      code = code;
-      body = body ∙ (λ i. planet_text (sym seen.rules_are i).speed planet.at (fields_of planet) (sym seen.queue i));
-      own = seen.own;
-      queue = seen.queue;
-      accounts = λ player. refl;
-    }
+    let text : acted.body ≡ planet_text sight.rules.speed planet.at (fields_of planet) (sight.seen (PlanetId planet.at)).queue =
+    body ∙ (λ i. planet_text (sym seen.rules_are i).speed planet.at (fields_of planet) (sym seen.planet_is i).queue) in
+    unchanged sight rules moment 0 (record { code = 0; body = planet_text sight.rules.speed planet.at (fields_of planet) (sight.seen (PlanetId planet.at)).queue }) account planet acted seen code text refl
 
-place_itself : (at : Coord) → same_cell (PlanetId at) (PlanetId at) ≡ true
-place_itself at = grind (arith, nat_tests)
+-- `set C WORK TENTHS`
+pub set : (sight : Sight) (rules : Rules) (moment : ℕ) (account : Account) (kind : Kind) (tenths : ℕ) (old new : Planet) (acted : Acted) → IsSeen sight rules moment account old
+    → acted.code ≡ 0 → acted.body ≡ [] → fields_of new ≡ record (fields_of old) { tenths = slice_set old.tenths (place_in WORKS kind) tenths } → buildings_of new ≡ buildings_of old → batches_of new ≡ batches_of old
+    → new.at ≡ old.at → IsOutcome sight 0 (sets sight old.at kind tenths (account_fields account) (fields_of old)) account new acted
+set sight rules moment account kind tenths old new acted seen code body fields buildings yard at =
+    let total : account.units ≡ account.units + 0 = omega arith in
+    let own : of_planet (record (fields_of old) { tenths = slice_set old.tenths (place_in WORKS kind) tenths }) ≡ of_planet (fields_of new) = ap of_planet (sym fields) in
+    is_outcome sight rules moment 0 (sets sight old.at kind tenths (account_fields account) (fields_of old)) account old account new acted seen
+    (record {
+      player = refl;
+      at = at;
+      account_own = ap (λ (x : View). x.own) seen.account_is;
+      account_queues = λ class. ap (λ (x : View). x.queue class) seen.account_is;
+      planets = refl;
+      total = total;
+      planet_own = rw (place_itself old.at) own;
+      planet_queues = same_queues old new (sight.seen (PlanetId old.at)) seen.planet_is buildings yard;
+    })
+    code
+    body
 
 different : (code : ℕ) → 0 < code → (code == 0) ≡ false
 different code some = grind (arith, nat_tests)
 
--- a place is the same as itself
-same_place : (at other : Coord) → other ≡ at → same_cell (PlanetId at) (PlanetId other) ≡ true
-same_place at other same =
-    subst (λ (x : Coord). same_cell (PlanetId at) (PlanetId x) ≡ true) (sym same) (place_itself at)
+-- a refusal
+refused_is : (sight : Sight) (rules : Rules) (moment units : ℕ) (came : Outcome) (code : ℕ) (account : Account) (planet : Planet) (acted : Acted) → IsSeen sight rules moment account planet
+    → came ≡ refused sight code → acted.code ≡ code → 0 < code → acted.body ≡ [] → IsOutcome sight units came account planet acted
+refused_is sight rules moment units came code account planet acted seen is told some body =
+    let apart : (code == 0) ≡ false = different code some in
+    let none : (if code == 0 then units else 0) ≡ 0 = rw apart refl in
+    let outcome : IsOutcome sight units (refused sight code) account planet acted =
+    unchanged sight rules moment units (record { code = code; body = [] }) account planet acted seen told body none in
+    subst (λ (x : Outcome). IsOutcome sight units x account planet acted) (sym is) outcome
 
--- `set C WORK TENTHS`
-pub set : (sight : Sight) (rules : Rules) (moment : ℕ) (account : AccountFields) (kind : Kind) (tenths : ℕ) (old new : Planet) (acted : Acted) → IsSeen sight rules moment old
-    → acted.code ≡ 0 → acted.body ≡ [] → fields_of new ≡ record (fields_of old) { tenths = slice_set old.tenths (place_in WORKS kind) tenths } → items_of new ≡ items_of old → new.at ≡ old.at
-    → IsOutcome sight (sets sight old.at kind tenths account (fields_of old)) new acted
-set sight rules moment account kind tenths old new acted seen code body fields items at =
-    record {
-      code = code;
-      body = body;
-      own = rw (same_place old.at new.at at) (ap of_planet (sym fields));
-      queue = ap (λ (x : Coord). buildings_at sight x) at ∙ seen.queue ∙ sym items;
-      accounts = λ player. refl;
-    }
+unless_refused : (sight : Sight) (code : ℕ) (grant : Outcome) → 0 < code → unless sight code grant ≡ refused sight code
+unless_refused sight code grant some = let apart : (code == 0) ≡ false = different code some in rw apart refl
 
--- what comes of an order that isn't refused
-ordered_outcome : (sight : Sight) (at : Coord) (kind : Kind) (planet : PlanetFields) (items : List Item) → sight.number ≡ 0
-    → queues sight at kind planet items
-    ≡ granted (order_line (placed sight.rules.speed sight.moment planet items kind)) (new_buildings (PlanetId at) (of_planet (ordered sight.rules.speed sight.moment planet items (new_item at kind)).planet) (ordered sight.rules.speed sight.moment planet items (new_item at kind)).queue sight.seen)
-ordered_outcome sight at kind planet [] number =
-    λ i.
-    granted (starts_line (level_of planet kind + 1) (sight.moment + next_duration sight.rules.speed planet kind))
-    (new_buildings (PlanetId at) (of_planet (pays planet kind)) (started sight.rules.speed sight.moment planet (record (new_item at kind) { number = number i }) ∷ []) sight.seen)
-ordered_outcome sight at kind planet (first ∷ later) number =
-    let places : suc (length (later ++ ordered_at sight at kind ∷ [])) ≡ suc (length later) + 1 = ap suc (length_push later (ordered_at sight at kind)) ∙ omega arith in
-    ap (λ (n : ℕ). granted (waits_line n) (new_buildings (PlanetId at) (of_planet planet) (first ∷ (later ++ ordered_at sight at kind ∷ [])) sight.seen)) places
-    ∙ (λ i. granted (waits_line (suc (length later) + 1)) (new_buildings (PlanetId at) (of_planet planet) (first ∷ (later ++ record (new_item at kind) { number = number i } ∷ [])) sight.seen))
+unless_granted : (sight : Sight) (code : ℕ) (grant : Outcome) → code ≡ 0 → unless sight code grant ≡ grant
+unless_granted sight code grant none = ap (λ (n : ℕ). if n == 0 then grant else refused sight n) none
 
--- if a place has this queue, an order comes to this, whatever is refused
-of_queue : Sight → Coord → Kind → AccountFields → PlanetFields → List Item → Outcome
-of_queue sight at kind account planet items =
-    if build_refusal account planet items kind == 0 then queues sight at kind planet items else refused sight (build_refusal account planet items kind)
+-- what a building ordered comes to, if its queue has these items
+builds_in : Sight → Coord → Kind → AccountFields → PlanetFields → List Item → Outcome
+builds_in sight at kind account planet items = unless sight (build_refusal account planet items kind) (queues sight at kind planet items)
 
-builds_is : (sight : Sight) (at : Coord) (kind : Kind) (account : AccountFields) (planet : PlanetFields) (items : List Item) → buildings_at sight at ≡ items
-    → builds sight at kind account planet ≡ of_queue sight at kind account planet items
-unfolding of_queue
-builds_is sight at kind account planet items queue = ap (of_queue sight at kind account planet) queue
-
-granted_order : (sight : Sight) (at : Coord) (kind : Kind) (account : AccountFields) (planet : PlanetFields) (items : List Item) → build_refusal account planet items kind ≡ 0
-    → of_queue sight at kind account planet items ≡ queues sight at kind planet items
-unfolding of_queue
-granted_order sight at kind account planet items none =
-    ap (λ (code : ℕ). if code == 0 then queues sight at kind planet items else refused sight code) none
-
-refused_order : (sight : Sight) (at : Coord) (kind : Kind) (account : AccountFields) (planet : PlanetFields) (items : List Item) (code : ℕ) → code ≡ build_refusal account planet items kind → 0 < code
-    → of_queue sight at kind account planet items ≡ refused sight code
-unfolding of_queue
-refused_order sight at kind account planet items code is some =
-    let fails : (code == 0) ≡ false = different code some in
-    ap (λ (c : ℕ). if c == 0 then queues sight at kind planet items else refused sight c) (sym is) ∙ rw fails refl
+builds_is : (sight : Sight) (rules : Rules) (moment : ℕ) (account : Account) (planet : Planet) (kind : Kind) → IsSeen sight rules moment account planet
+    → builds sight planet.at kind (account_fields account) (fields_of planet) ≡ builds_in sight planet.at kind (account_fields account) (fields_of planet) (buildings_of planet)
+unfolding builds_in
+builds_is sight rules moment account planet kind seen =
+    ap (λ (x : View). builds_in sight planet.at kind (account_fields account) (fields_of planet) (x.queue Buildings)) seen.planet_is
 
 -- `build C BUILDING`, refused
-pub not_built : (sight : Sight) (rules : Rules) (moment : ℕ) (account : AccountFields) (kind : Kind) (planet : Planet) (acted : Acted) → IsSeen sight rules moment planet
-    → acted.code ≡ build_refusal account (fields_of planet) (items_of planet) kind → 0 < acted.code → acted.body ≡ []
-    → IsOutcome sight (builds sight planet.at kind account (fields_of planet)) planet acted
+pub not_built : (sight : Sight) (rules : Rules) (moment : ℕ) (account : Account) (kind : Kind) (planet : Planet) (acted : Acted) → IsSeen sight rules moment account planet
+    → acted.code ≡ build_refusal (account_fields account) (fields_of planet) (buildings_of planet) kind → 0 < acted.code → acted.body ≡ []
+    → IsOutcome sight 0 (builds sight planet.at kind (account_fields account) (fields_of planet)) account planet acted
+unfolding builds_in
 not_built sight rules moment account kind planet acted seen code some body =
-    let came : builds sight planet.at kind account (fields_of planet) ≡ refused sight acted.code =
-    builds_is sight planet.at kind account (fields_of planet) (items_of planet) seen.queue
-    ∙ refused_order sight planet.at kind account (fields_of planet) (items_of planet) acted.code code some in
-    let outcome : IsOutcome sight (refused sight acted.code) planet acted =
-    record { code = refl; body = body; own = seen.own; queue = seen.queue; accounts = λ player. refl } in
-    subst (λ (x : Outcome). IsOutcome sight x planet acted) (sym came) outcome
+    let came = builds_is sight rules moment account planet kind seen ∙ unless_refused sight (build_refusal (account_fields account) (fields_of planet) (buildings_of planet) kind) (queues sight planet.at kind (fields_of planet) (buildings_of planet)) (subst (λ (n : ℕ). 0 < n) code some) in
+    refused_is sight rules moment 0 _ _ account planet acted seen came code (subst (λ (n : ℕ). 0 < n) code some) body
 
--- `build C BUILDING`, granted, for a planet that stands in the sight's own rules and moment
-granted_now : (sight : Sight) (account : AccountFields) (kind : Kind) (old new : Planet) (acted : Acted) (order : Placed) → buildings_at sight old.at ≡ items_of old → sight.number ≡ 0
-    → build_refusal account (fields_of old) (items_of old) kind ≡ 0 → acted.code ≡ 0 → acted.body ≡ order_line order → new.at ≡ old.at
-    → order ≡ placed sight.rules.speed sight.moment (fields_of old) (items_of old) kind
-    → works_of new ≡ ordered sight.rules.speed sight.moment (fields_of old) (items_of old) (new_item old.at kind)
-    → IsOutcome sight (builds sight old.at kind account (fields_of old)) new acted
-granted_now sight account kind old new acted order queue number none code body at told works =
-    let result = ordered sight.rules.speed sight.moment (fields_of old) (items_of old) (new_item old.at kind) in
-    let line = order_line (placed sight.rules.speed sight.moment (fields_of old) (items_of old) kind) in
-    let came : builds sight old.at kind account (fields_of old) ≡ granted line (new_buildings (PlanetId old.at) (of_planet result.planet) result.queue sight.seen) =
-    builds_is sight old.at kind account (fields_of old) (items_of old) queue
-    ∙ granted_order sight old.at kind account (fields_of old) (items_of old) none
-    ∙ ordered_outcome sight old.at kind (fields_of old) (items_of old) number in
-    let place = same_place old.at new.at at in
-    let outcome : IsOutcome sight (granted line (new_buildings (PlanetId old.at) (of_planet result.planet) result.queue sight.seen)) new acted =
-    record {
-      code = code;
-      body = body ∙ ap order_line told;
-      own = rw place (ap (λ (x : Works). of_planet x.planet) (sym works));
-      queue = rw place (ap (λ (x : Works). x.queue) (sym works));
-      accounts = λ player. refl;
-    } in
-    subst (λ (x : Outcome). IsOutcome sight x new acted) (sym came) outcome
+-- a building is ordered, by the rules, the moment and the number that are seen
+built_items : (sight : Sight) (rules : Rules) (moment : ℕ) (account : Account) (kind : Kind) (items : List Item) (old new : Planet) (acted : Acted) → IsSeen sight rules moment account old
+    → acted.code ≡ 0 → acted.body ≡ order_line (placed sight.rules.speed sight.moment (fields_of old) items kind) → new.at ≡ old.at
+    → works_of new ≡ ordered sight.rules.speed sight.moment (fields_of old) items (record (new_item old.at kind) { number = sight.number }) → batches_of new ≡ batches_of old
+    → IsOutcome sight 0 (queues sight old.at kind (fields_of old) items) account new acted
+built_items sight rules moment account kind [] old new acted seen code body at works yard =
+    let planet : pays (fields_of old) kind ≡ fields_of new = ap (λ (x : Works). x.planet) (sym works) in
+    building_joins sight rules moment (with_planet sight old.at (pays (fields_of old) kind)) _ _ account old new acted seen code body at
+    (rw (place_itself old.at) (ap of_planet planet)) refl (ap (λ (x : Works). x.queue) works) yard
+built_items sight rules moment account kind (first ∷ later) old new acted seen code body at works yard =
+    let planet : fields_of old ≡ fields_of new = ap (λ (x : Works). x.planet) (sym works) in
+    building_joins sight rules moment (owns sight.seen) _ _ account old new acted seen code body at
+    (ap (λ (x : View). x.own) seen.planet_is ∙ ap of_planet planet) refl (ap (λ (x : Works). x.queue) works) yard
 
 -- `build C BUILDING`, granted
-pub built : (sight : Sight) (rules : Rules) (moment : ℕ) (account : AccountFields) (kind : Kind) (old new : Planet) (acted : Acted) (order : Placed) → IsSeen sight rules moment old
-    → build_refusal account (fields_of old) (items_of old) kind ≡ 0 → acted.code ≡ 0 → acted.body ≡ order_line order → new.at ≡ old.at
-    → order ≡ placed rules.speed moment (fields_of old) (items_of old) kind
-    → works_of new ≡ ordered rules.speed moment (fields_of old) (items_of old) (new_item old.at kind)
-    → IsOutcome sight (builds sight old.at kind account (fields_of old)) new acted
-built sight rules moment account kind old new acted order seen none code body at told works =
+built : (sight : Sight) (rules : Rules) (moment : ℕ) (account : Account) (kind : Kind) (old new : Planet) (acted : Acted) (order : Placed) → IsSeen sight rules moment account old
+    → build_refusal (account_fields account) (fields_of old) (buildings_of old) kind ≡ 0 → acted.code ≡ 0 → acted.body ≡ order_line order → new.at ≡ old.at
+    → order ≡ placed rules.speed moment (fields_of old) (buildings_of old) kind
+    → works_of new ≡ ordered rules.speed moment (fields_of old) (buildings_of old) (new_item old.at kind) → batches_of new ≡ batches_of old
+    → IsOutcome sight 0 (builds sight old.at kind (account_fields account) (fields_of old)) account new acted
+unfolding builds_in
+built sight rules moment account kind old new acted order seen none code body at told works yard =
     let speed : rules.speed ≡ sight.rules.speed = ap (λ (x : Rules). x.speed) (sym seen.rules_are) in
     let time : moment ≡ sight.moment = sym seen.moment_is in
-    granted_now sight account kind old new acted order seen.queue seen.number_is none code body at
-    (told ∙ (λ i. placed (speed i) (time i) (fields_of old) (items_of old) kind))
-    (works ∙ (λ i. ordered (speed i) (time i) (fields_of old) (items_of old) (new_item old.at kind)))
+    let number : 0 ≡ sight.number = sym seen.number_is in
+    let came = builds_is sight rules moment account old kind seen ∙ unless_granted sight (build_refusal (account_fields account) (fields_of old) (buildings_of old) kind) (queues sight old.at kind (fields_of old) (buildings_of old)) none in
+    let outcome =
+    built_items sight rules moment account kind (buildings_of old) old new acted seen code
+    (body ∙ ap order_line told ∙ (λ i. order_line (placed (speed i) (time i) (fields_of old) (buildings_of old) kind))) at
+    (works ∙ (λ i. ordered (speed i) (time i) (fields_of old) (buildings_of old) (record (new_item old.at kind) { number = number i }))) yard in
+    subst (λ (x : Outcome). IsOutcome sight 0 x account new acted) (sym came) outcome
+
+same_buildings : (old copy : Planet) → AreSame old copy → buildings_of copy ≡ buildings_of old
+same_buildings old copy same = λ i. map (item_of (sym same.at i)) (sym same.buildings i)
+
+same_batches : (old copy : Planet) → AreSame old copy → batches_of copy ≡ batches_of old
+same_batches old copy same = λ i. map (batch_item_of (sym same.at i)) (sym same.yard i)
 
 -- the same, if the order was made on a copy
-pub built_on_copy : (sight : Sight) (rules : Rules) (moment : ℕ) (account : AccountFields) (kind : Kind) (old copy new : Planet) (acted : Acted) (order : Placed) → IsSeen sight rules moment old
-    → AreSame old copy → build_refusal account (fields_of old) (items_of old) kind ≡ 0 → acted.code ≡ 0 → acted.body ≡ order_line order → new.at ≡ copy.at
-    → order ≡ placed rules.speed moment (fields_of copy) (items_of copy) kind
-    → works_of new ≡ ordered rules.speed moment (fields_of copy) (items_of copy) (new_item copy.at kind)
-    → IsOutcome sight (builds sight old.at kind account (fields_of old)) new acted
-built_on_copy sight rules moment account kind old copy new acted order seen same none code body at told works =
-    let items : items_of copy ≡ items_of old = λ i. map (item_of (sym same.at i)) (sym same.items i) in
+pub built_on_copy : (sight : Sight) (rules : Rules) (moment : ℕ) (account : Account) (kind : Kind) (old copy new : Planet) (acted : Acted) (order : Placed) → IsSeen sight rules moment account old
+    → AreSame old copy → build_refusal (account_fields account) (fields_of old) (buildings_of old) kind ≡ 0 → acted.code ≡ 0 → acted.body ≡ order_line order → new.at ≡ copy.at
+    → order ≡ placed rules.speed moment (fields_of copy) (buildings_of copy) kind
+    → works_of new ≡ ordered rules.speed moment (fields_of copy) (buildings_of copy) (new_item copy.at kind) → batches_of new ≡ batches_of copy
+    → IsOutcome sight 0 (builds sight old.at kind (account_fields account) (fields_of old)) account new acted
+built_on_copy sight rules moment account kind old copy new acted order seen same none code body at told works yard =
+    let items = same_buildings old copy same in
     let fields : fields_of copy ≡ fields_of old = sym same.fields in
     built sight rules moment account kind old new acted order seen none code body (at ∙ sym same.at)
     (told ∙ (λ i. placed rules.speed moment (fields i) (items i) kind))
     (works ∙ (λ i. ordered rules.speed moment (fields i) (items i) (new_item (sym same.at i) kind)))
+    (yard ∙ same_batches old copy same)
+
+-- what a batch ordered comes to, if the account has so many units and the yard these batches
+yards_in : Sight → Coord → Kind → ℕ → AccountFields → PlanetFields → ℕ → List Item → Outcome
+yards_in sight at kind count account planet units batches =
+    unless sight (yard_refusal account units planet batches kind count) (queues_batch sight at kind count planet batches)
+
+yards_is : (sight : Sight) (rules : Rules) (moment : ℕ) (account : Account) (planet : Planet) (kind : Kind) (count : ℕ) → IsSeen sight rules moment account planet
+    → yards sight account.player planet.at kind count (account_fields account) (fields_of planet)
+    ≡ yards_in sight planet.at kind count (account_fields account) (fields_of planet) account.units (batches_of planet)
+unfolding yards_in
+yards_is sight rules moment account planet kind count seen =
+    λ i. yards_in sight planet.at kind count (account_fields account) (fields_of planet) (seen.account_is i).units ((seen.planet_is i).queue Yard)
+
+-- `yard C UNIT COUNT`, refused
+pub not_yarded : (sight : Sight) (rules : Rules) (moment : ℕ) (account : Account) (kind : Kind) (count : ℕ) (planet : Planet) (acted : Acted) → IsSeen sight rules moment account planet
+    → acted.code ≡ yard_refusal (account_fields account) account.units (fields_of planet) (batches_of planet) kind count → 0 < acted.code → acted.body ≡ []
+    → IsOutcome sight count (yards sight account.player planet.at kind count (account_fields account) (fields_of planet)) account planet acted
+unfolding yards_in
+not_yarded sight rules moment account kind count planet acted seen code some body =
+    let came = yards_is sight rules moment account planet kind count seen ∙ unless_refused sight (yard_refusal (account_fields account) account.units (fields_of planet) (batches_of planet) kind count) (queues_batch sight planet.at kind count (fields_of planet) (batches_of planet)) (subst (λ (n : ℕ). 0 < n) code some) in
+    refused_is sight rules moment count _ _ account planet acted seen came code (subst (λ (n : ℕ). 0 < n) code some) body
+
+-- An account has so many units more than another, and is else the same.
+pub record HasMore (count : ℕ) (old new : Account) : Type 0 where
+  pub units : new.units ≡ old.units + count
+  pub keeps : KeepsResearch old new
+
+-- a batch is ordered, by the rules, the moment and the number that are seen
+yarded_items : (sight : Sight) (rules : Rules) (moment : ℕ) (old_account account : Account) (kind : Kind) (count : ℕ) (items : List Item) (old new : Planet) (acted : Acted) → IsSeen sight rules moment old_account old
+    → acted.code ≡ 0 → acted.body ≡ order_line (batch_placed sight.rules.speed sight.moment (fields_of old) items (record (new_batch old.at kind count) { number = sight.number })) → new.at ≡ old.at
+    → yard_of new ≡ batch_ordered sight.rules.speed sight.moment (fields_of old) items (record (new_batch old.at kind count) { number = sight.number }) → buildings_of new ≡ buildings_of old → HasMore count old_account account
+    → IsOutcome sight count (queues_batch sight old.at kind count (fields_of old) items) account new acted
+yarded_items sight rules moment old_account account kind count [] old new acted seen code body at works buildings more =
+    let planet : pays_batch (fields_of old) kind count ≡ fields_of new = ap (λ (x : Works). x.planet) (sym works) in
+    batch_joins sight rules moment count (with_planet sight old.at (pays_batch (fields_of old) kind count)) _ _ old_account account old new acted seen code body at
+    (rw (place_itself old.at) (ap of_planet planet)) refl (ap (λ (x : Works). x.queue) works) buildings
+    more.keeps.player (λ i. record { techs = more.keeps.techs i }) more.keeps.planets (λ i. map (research_item (more.keeps.player i)) (more.keeps.research i)) more.units
+yarded_items sight rules moment old_account account kind count (first ∷ later) old new acted seen code body at works buildings more =
+    let planet : pays_batch (fields_of old) kind count ≡ fields_of new = ap (λ (x : Works). x.planet) (sym works) in
+    batch_joins sight rules moment count (with_planet sight old.at (pays_batch (fields_of old) kind count)) _ _ old_account account old new acted seen code body at
+    (rw (place_itself old.at) (ap of_planet planet)) refl (ap (λ (x : Works). x.queue) works) buildings
+    more.keeps.player (λ i. record { techs = more.keeps.techs i }) more.keeps.planets (λ i. map (research_item (more.keeps.player i)) (more.keeps.research i)) more.units
+
+-- `yard C UNIT COUNT`, granted: the order was made on a copy
+pub yarded_on_copy : (sight : Sight) (rules : Rules) (moment : ℕ) (old_account account : Account) (kind : Kind) (count : ℕ) (old copy new : Planet) (acted : Acted) (order : Placed) → IsSeen sight rules moment old_account old
+    → AreSame old copy → yard_refusal (account_fields old_account) old_account.units (fields_of old) (batches_of old) kind count ≡ 0 → acted.code ≡ 0 → acted.body ≡ order_line order → new.at ≡ copy.at
+    → order ≡ batch_placed rules.speed moment (fields_of copy) (batches_of copy) (new_batch copy.at kind count)
+    → yard_of new ≡ batch_ordered rules.speed moment (fields_of copy) (batches_of copy) (new_batch copy.at kind count) → buildings_of new ≡ buildings_of copy → HasMore count old_account account
+    → IsOutcome sight count (yards sight old_account.player old.at kind count (account_fields old_account) (fields_of old)) account new acted
+unfolding yards_in
+yarded_on_copy sight rules moment old_account account kind count old copy new acted order seen same none code body at told works buildings more =
+    let speed : rules.speed ≡ sight.rules.speed = ap (λ (x : Rules). x.speed) (sym seen.rules_are) in
+    let time : moment ≡ sight.moment = sym seen.moment_is in
+    let number : 0 ≡ sight.number = sym seen.number_is in
+    let items = same_batches old copy same in
+    let fields : fields_of copy ≡ fields_of old = sym same.fields in
+    let came = yards_is sight rules moment old_account old kind count seen ∙ unless_granted sight (yard_refusal (account_fields old_account) old_account.units (fields_of old) (batches_of old) kind count) (queues_batch sight old.at kind count (fields_of old) (batches_of old)) none in
+    let outcome =
+    yarded_items sight rules moment old_account account kind count (batches_of old) old new acted seen code
+    (body ∙ ap order_line told ∙ (λ i. order_line (batch_placed (speed i) (time i) (fields i) (items i) (record (new_batch (sym same.at i) kind count) { number = number i })))) (at ∙ sym same.at)
+    (works ∙ (λ i. batch_ordered (speed i) (time i) (fields i) (items i) (record (new_batch (sym same.at i) kind count) { number = number i })))
+    (buildings ∙ same_buildings old copy same) more in
+    subst (λ (x : Outcome). IsOutcome sight count x account new acted) (sym came) outcome
+
+-- what a technology ordered comes to, if the research queue has these items
+researches_in : Sight → Account → Coord → Kind → PlanetFields → List Item → Outcome
+researches_in sight account at kind planet items =
+    unless sight (research_refusal sight.rules.speed (account_fields account) planet items kind) (queues_research sight account.player at kind (account_fields account) planet items)
+
+researches_is : (sight : Sight) (rules : Rules) (moment : ℕ) (account : Account) (planet : Planet) (kind : Kind) → IsSeen sight rules moment account planet
+    → researches sight account.player planet.at kind (account_fields account) (fields_of planet) ≡ researches_in sight account planet.at kind (fields_of planet) (research_of account)
+unfolding researches_in
+researches_is sight rules moment account planet kind seen =
+    ap (λ (x : View). researches_in sight account planet.at kind (fields_of planet) (x.queue Researches)) seen.account_is
+
+-- `research C TECH`, refused
+pub not_researched : (sight : Sight) (rules : Rules) (moment : ℕ) (account : Account) (kind : Kind) (planet : Planet) (acted : Acted) → IsSeen sight rules moment account planet
+    → acted.code ≡ research_refusal rules.speed (account_fields account) (fields_of planet) (research_of account) kind → 0 < acted.code → acted.body ≡ []
+    → IsOutcome sight 0 (researches sight account.player planet.at kind (account_fields account) (fields_of planet)) account planet acted
+unfolding researches_in
+not_researched sight rules moment account kind planet acted seen code some body =
+    let speed : rules.speed ≡ sight.rules.speed = ap (λ (x : Rules). x.speed) (sym seen.rules_are) in
+    let told : acted.code ≡ research_refusal sight.rules.speed (account_fields account) (fields_of planet) (research_of account) kind =
+    code ∙ ap (λ (n : ℕ). research_refusal n (account_fields account) (fields_of planet) (research_of account) kind) speed in
+    let positive = subst (λ (n : ℕ). 0 < n) told some in
+    let came = researches_is sight rules moment account planet kind seen ∙ unless_refused sight (research_refusal sight.rules.speed (account_fields account) (fields_of planet) (research_of account) kind) (queues_research sight account.player planet.at kind (account_fields account) (fields_of planet) (research_of account)) positive in
+    refused_is sight rules moment 0 _ _ account planet acted seen came told positive body
+
+-- a technology is ordered, by the rules, the moment and the number that are seen
+researched_items : (sight : Sight) (rules : Rules) (moment : ℕ) (old_account account : Account) (kind : Kind) (items : List Item) (old new : Planet) (acted : Acted) → IsSeen sight rules moment old_account old
+    → acted.code ≡ 0 → acted.body ≡ order_line (research_placed sight.rules.speed sight.moment (account_fields old_account) (fields_of old) items kind) → new.at ≡ old.at
+    → fields_of new ≡ research_paid (account_fields old_account) (fields_of old) items kind → buildings_of new ≡ buildings_of old → batches_of new ≡ batches_of old
+    → research_of account ≡ research_ordered sight.rules.speed sight.moment (account_fields old_account) (fields_of old) items (record (new_research old_account.player old.at kind) { number = sight.number })
+    → account_fields account ≡ account_fields old_account → KeepsHoldings old_account account
+    → IsOutcome sight 0 (queues_research sight old_account.player old.at kind (account_fields old_account) (fields_of old) items) account new acted
+researched_items sight rules moment old_account account kind [] old new acted seen code body at fields buildings yard research techs keeps =
+    research_joins sight rules moment (with_planet sight old.at (pays_research (account_fields old_account) (fields_of old) kind)) _ _ old_account account old new acted seen code body at
+    (rw (place_itself old.at) (ap of_planet (sym fields))) refl buildings yard keeps.player techs keeps.planets research keeps.units
+researched_items sight rules moment old_account account kind (first ∷ later) old new acted seen code body at fields buildings yard research techs keeps =
+    research_joins sight rules moment (owns sight.seen) _ _ old_account account old new acted seen code body at
+    (ap (λ (x : View). x.own) seen.planet_is ∙ ap of_planet (sym fields)) refl buildings yard keeps.player techs keeps.planets research keeps.units
+
+-- `research C TECH`, granted
+pub researched : (sight : Sight) (rules : Rules) (moment : ℕ) (old_account account : Account) (kind : Kind) (old new : Planet) (acted : Acted) (order : Placed) → IsSeen sight rules moment old_account old
+    → research_refusal rules.speed (account_fields old_account) (fields_of old) (research_of old_account) kind ≡ 0 → acted.code ≡ 0 → acted.body ≡ order_line order → new.at ≡ old.at
+    → order ≡ research_placed rules.speed moment (account_fields old_account) (fields_of old) (research_of old_account) kind
+    → fields_of new ≡ research_paid (account_fields old_account) (fields_of old) (research_of old_account) kind → buildings_of new ≡ buildings_of old → batches_of new ≡ batches_of old
+    → research_of account ≡ research_ordered rules.speed moment (account_fields old_account) (fields_of old) (research_of old_account) (new_research old_account.player old.at kind)
+    → account_fields account ≡ account_fields old_account → KeepsHoldings old_account account
+    → IsOutcome sight 0 (researches sight old_account.player old.at kind (account_fields old_account) (fields_of old)) account new acted
+unfolding researches_in
+researched sight rules moment old_account account kind old new acted order seen none code body at told fields buildings yard research techs keeps =
+    let speed : rules.speed ≡ sight.rules.speed = ap (λ (x : Rules). x.speed) (sym seen.rules_are) in
+    let time : moment ≡ sight.moment = sym seen.moment_is in
+    let number : 0 ≡ sight.number = sym seen.number_is in
+    let items = research_of old_account in
+    let free : research_refusal sight.rules.speed (account_fields old_account) (fields_of old) items kind ≡ 0 =
+    ap (λ (n : ℕ). research_refusal n (account_fields old_account) (fields_of old) items kind) (sym speed) ∙ none in
+    let came = researches_is sight rules moment old_account old kind seen ∙ unless_granted sight (research_refusal sight.rules.speed (account_fields old_account) (fields_of old) items kind) (queues_research sight old_account.player old.at kind (account_fields old_account) (fields_of old) items) free in
+    let outcome =
+    researched_items sight rules moment old_account account kind items old new acted seen code
+    (body ∙ ap order_line told ∙ (λ i. order_line (research_placed (speed i) (time i) (account_fields old_account) (fields_of old) items kind))) at fields buildings yard
+    (research ∙ (λ i. research_ordered (speed i) (time i) (account_fields old_account) (fields_of old) items (record (new_research old_account.player old.at kind) { number = number i })))
+    techs keeps in
+    subst (λ (x : Outcome). IsOutcome sight 0 x account new acted) (sym came) outcome
 
 -- what follows for each value that is there
 pub weaker : {A E : Type 0} (r : Result A E) (P Q : A → Type 0) → ((x : A) → P x → Q x) → IfOk r P → IfOk r Q

@@ -1,51 +1,87 @@
--- What a request about the caller's own planet makes of that planet.
-use Rattle.std.specs.Prelude.{◌≡◌, ℕ, List}
+-- What a request about the caller's own planet makes of the caller's account and of that planet.
+use Rattle.std.specs.Prelude.{◌≡◌, ℕ, ◌+◌, ◌==◌, ◌≤◌, List, [], ◌∷◌, Option, None, Some, IsTrue, sum, if◌then◌else◌}
 use Rattle.account_cell.specs.declared.account.Account.{Account}
 use Rattle.account_cell.specs.Account.{account_fields}
+use Rattle.base_ids.specs.Cells.{same_player}
 use Rattle.base_ids.specs.declared.cell_id.CellId.TheVariants.{Account as AccountId, Planet as PlanetId}
-use Rattle.base_ids.specs.declared.player.Player.{Player}
-use Rattle.orders.specs.Acting.{queue_after}
+use Rattle.catalog.specs.declared.kind.Kind.{Kind}
+use Rattle.orders.specs.Acting.{account_seen, planet_seen, seen_after}
 use Rattle.orders.specs.declared.parts.Acted.{Acted}
-use Rattle.planet_cell.specs.Planet.{fields_of, items_of}
-use Rattle.planet_cell.specs.declared.building_item.Placed.{Placed}
-use Rattle.planet_cell.specs.declared.building_item.Placed.TheVariants.{Starts, Waits}
+use Rattle.planet_cell.specs.Planet.{batches_of, fields_of}
 use Rattle.planet_cell.specs.declared.planet.Planet.{Planet}
 use Rattle.reply_text.specs.OrderLines.{starts_line, waits_line}
 use Rattle.request_text.specs.declared.request.Request.{Request}
-use Rattle.request_text.specs.declared.request.Request.TheVariants.{Planet as PlanetOf, Build, Set}
-use Rattle.tick_model.specs.Requests.{Outcome, Sight, buildings_at, builds, own_seen, refused, sets, shows}
-use Rattle.tick_model.specs.Universe.{of_planet}
+use Rattle.request_text.specs.declared.request.Request.TheVariants.{Planet as PlanetOf, Build, Research, Yard as YardOf, Set}
+use Rattle.tick_model.specs.Requests.{Outcome, Sight, builds, refused, researches, sets, shows, yards}
+use Rattle.tick_model.specs.Researches.{pays_research}
+use Rattle.tick_model.specs.Universe.{AccountFields, Item, PlanetFields}
+use Rattle.tick_model.specs.Views.{units_left}
 use Rattle.tick_model.specs.declared.codes.TheConstants.{NOT_BUILT}
+use Rattle.tick_model.specs.declared.placed.Placed.{Placed}
+use Rattle.tick_model.specs.declared.placed.Placed.TheVariants.{Starts, Waits}
 use Rattle.tick_model.specs.declared.rules.Rules.{Rules}
 
--- A planet is what is seen at its place, at a moment, by a request whose number isn't drawn yet.
-pub record IsSeen (sight : Sight) (rules : Rules) (moment : ℕ) (planet : Planet) : Type 0 where
+-- If the planet is the account's, the account counts its units, those that its yard is to build included.
+abbrev pub CountsUnits : Account → Planet → Type 0
+CountsUnits account planet = IsTrue (same_player planet.owner account.player) → sum planet.units + units_left (batches_of planet) ≤ account.units
+
+-- The caller's account counts the units of the planet at the place, if both are there and the planet is the caller's.
+abbrev pub AreCounted : Option Account → Option Planet → Type 0
+AreCounted (Some account) (Some planet) = CountsUnits account planet
+AreCounted (Some account) None = Unit {0}
+AreCounted None planet = Unit {0}
+
+-- the forms of requests about a planet of the caller's
+abbrev pub IsAtPlace : Request → Type 0
+IsAtPlace (PlanetOf at) = Unit {0}
+IsAtPlace (Build at building) = Unit {0}
+IsAtPlace (Research at technology) = Unit {0}
+IsAtPlace (YardOf at unit count) = Unit {0}
+IsAtPlace (Set at work tenths) = Unit {0}
+IsAtPlace _ = ⊥
+
+-- An account and a planet are what is seen of their cells, at a moment, by a request whose number isn't drawn yet.
+pub record IsSeen (sight : Sight) (rules : Rules) (moment : ℕ) (account : Account) (planet : Planet) : Type 0 where
   pub rules_are : sight.rules ≡ rules
   pub moment_is : sight.moment ≡ moment
   pub number_is : sight.number ≡ 0
-  pub own : own_seen sight (PlanetId planet.at) ≡ of_planet (fields_of planet)
-  pub queue : buildings_at sight planet.at ≡ items_of planet
+  pub account_is : sight.seen (AccountId account.player) ≡ account_seen (Some account)
+  pub planet_is : sight.seen (PlanetId planet.at) ≡ planet_seen (Some planet)
 
--- The code and the lines are those of an outcome, the planet has what the outcome leaves at its place, and no account is changed.
-pub record IsOutcome (sight : Sight) (came : Outcome) (planet : Planet) (acted : Acted) : Type 0 where
+-- The code and the lines are those of an outcome, by which so many units may be ordered, and the account and the planet are left as it
+-- says.
+pub record IsOutcome (sight : Sight) (units : ℕ) (came : Outcome) (account : Account) (planet : Planet) (acted : Acted) : Type 0 where
   pub code : acted.code ≡ came.answer.code
   pub body : acted.body ≡ came.answer.body
-  pub own : came.change.own (PlanetId planet.at) ≡ of_planet (fields_of planet)
-  pub queue : queue_after sight came.change planet.at ≡ items_of planet
-  pub accounts : (player : Player) → came.change.own (AccountId player) ≡ own_seen sight (AccountId player)
+  pub account_left : account_seen (Some account)
+      ≡ record (seen_after sight came.change (AccountId account.player)) { units = (sight.seen (AccountId account.player)).units + (if came.answer.code == 0 then units else 0) }
+  pub planet_left : planet_seen (Some planet) ≡ seen_after sight came.change (PlanetId planet.at)
 
--- whatever is seen, if it is the planet as it was, the planet and the answer are as the outcome says
-abbrev pub Follows : Rules → ℕ → (Sight → Outcome) → Planet → Planet → Acted → Type 0
-Follows rules moment outcome_of old new acted = (sight : Sight) → IsSeen sight rules moment old → IsOutcome sight (outcome_of sight) new acted
+-- whatever is seen, if it is the account and the planet as they were, the answer and both of them are as the outcome says
+abbrev pub Follows : Rules → ℕ → ℕ → (Sight → Outcome) → Account → Planet → Account → Planet → Acted → Type 0
+Follows rules moment units outcome_of old_account old_planet account planet acted =
+    (sight : Sight) → IsSeen sight rules moment old_account old_planet → IsOutcome sight units (outcome_of sight) account planet acted
 
 -- what comes of a request about the caller's own planet
 abbrev pub on_planet : Request → Account → Planet → Sight → Outcome
 on_planet (PlanetOf at) account planet sight = shows sight planet.at (account_fields account) (fields_of planet)
 on_planet (Build at building) account planet sight = builds sight planet.at building.kind (account_fields account) (fields_of planet)
+on_planet (Research at technology) account planet sight = researches sight account.player planet.at technology.kind (account_fields account) (fields_of planet)
+on_planet (YardOf at unit count) account planet sight = yards sight account.player planet.at unit.kind count.n (account_fields account) (fields_of planet)
 on_planet (Set at work tenths) account planet sight = sets sight planet.at work.kind tenths.n (account_fields account) (fields_of planet)
 on_planet _ account planet sight = refused sight NOT_BUILT
 
+-- An account and a planet show the same as before, at the same place and for the same player.
+pub record AreHeld (old_account : Account) (old_planet : Planet) (account : Account) (planet : Planet) : Type 0 where
+  pub account_is : account_seen (Some account) ≡ account_seen (Some old_account)
+  pub planet_is : planet_seen (Some planet) ≡ planet_seen (Some old_planet)
+
+-- the planet that pays for a technology: in an empty queue it starts at once
+abbrev pub research_paid : AccountFields → PlanetFields → List Item → Kind → PlanetFields
+research_paid account planet [] kind = pays_research account planet kind
+research_paid account planet (first ∷ later) kind = planet
+
 -- the line that answers an order
 abbrev pub order_line : Placed → List ℕ
-order_line (Starts level second) = starts_line level second
+order_line (Starts amount second) = starts_line amount second
 order_line (Waits place) = waits_line place

@@ -2,7 +2,10 @@
 #![tactic(auto)]
 
 mod acting;
+mod ordering;
 mod parts;
+mod queues;
+mod researching;
 mod writing;
 
 pub use acting::act;

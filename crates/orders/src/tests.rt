@@ -1,5 +1,9 @@
-ghost use Rattle.std.specs.Prelude.{◌≤◌};
+ghost use Rattle.std.specs.Prelude.{◌≤◌, IsTrue, [], replicate};
+ghost use Rattle.account_cell.specs.Bounds.{AreWithinCaps as AreTechsWithinCaps};
 ghost use Rattle.catalog.specs.declared.amounts.TheConstants.{CAP};
+ghost use Rattle.catalog.specs.declared.ships.TheConstants.{UNITS};
+ghost use Rattle.orders.specs.Granting.{AreCounted};
+ghost use Rattle.planet_cell.specs.Bounds.{AreWithinCaps};
 ghost use Rattle.ports.specs.declared.clock.TheConstants.{LATEST};
 
 use crate::{Acted, Parts, account_lines, act};
@@ -14,18 +18,25 @@ use std::alloc::{AllocError, Global};
 use std::process::Abort;
 use std::test::Fail;
 use tick_model::{
-    Debris, LEVEL_CAP, NO_FIELDS, NO_PLANET, NO_PLAYER, NOT_BUILT, NOT_YOURS, POOR, QUEUE_FULL,
-    REQUIRES, Rules,
+    CEILING, Debris, LEVEL_CAP, NO_FIELDS, NO_PLANET, NO_PLAYER, NOT_BUILT, NOT_YOURS, POOR,
+    QUEUE_FULL, REQUIRES, Rules,
 };
 
 const RULES: Rules = Rules { seed: 9, speed: 1 };
 
 const HOME: Coord = Coord { g: 1, s: 1, p: 1 };
 
-/// A planet of a player without buildings, at -20 degrees, with so many fields and units of metal and of crystal.
-fn planet(alloc: Global, k: u32, fields: u16, units: u64) -> Planet
+/// Robotics 2, shipyard 1 and lab 1.
+const WORKSHOPS: [u8; 11] = [0, 0, 0, 0, 0, 0, 0, 2, 1, 1, 0];
+
+/// Graviton 1, which is as high as it goes, and energy 3.
+const LEARNED: [u8; 14] = [3, 0, 0, 0, 0, 0, 0, 0, 0, 0, 0, 0, 0, 1];
+
+/// A planet of a player at -20 degrees, with these levels, so many fields, and so many units of each resource.
+fn planet_with(alloc: Global, k: u32, levels: [u8; 11], fields: u16, units: u64) -> Planet
     requires from { 1 ≤ k }
     requires to { k ≤ 65535 }
+    requires levels { AreWithinCaps levels [] }
     requires units { units ≤ CAP }
 {
     Planet {
@@ -33,12 +44,12 @@ fn planet(alloc: Global, k: u32, fields: u16, units: u64) -> Planet
         owner: Player { k },
         temperature: -20,
         fields,
-        levels: [0; 11],
+        levels,
         tenths: [10; 5],
         stock: Resources {
             metal: GRAINS * units,
             crystal: GRAINS * units,
-            deuterium: 0,
+            deuterium: GRAINS * units,
         },
         debris: Debris {
             metal: 0,
@@ -46,17 +57,54 @@ fn planet(alloc: Global, k: u32, fields: u16, units: u64) -> Planet
         },
         units: [0; 22],
         buildings: Vec::new(alloc),
+        yard: Vec::new(alloc),
     }
 }
 
-/// The account of player 1, without technologies.
-fn account(alloc: Global) -> Result<Account, AllocError> {
+/// A planet without buildings.
+#[tactic(auto, using(crate::proofs::Fresh::levels_fresh))]
+fn planet(alloc: Global, k: u32, fields: u16, units: u64) -> Planet
+    requires from { 1 ≤ k }
+    requires to { k ≤ 65535 }
+    requires units { units ≤ CAP }
+{
+    planet_with(alloc, k, [0; 11], fields, units)
+}
+
+/// A planet of player 1 with a shipyard and a lab.
+#[tactic(auto, using(crate::proofs::Fresh::levels_of_workshops))]
+fn workshops(alloc: Global, units: u64) -> Planet
+    requires { units ≤ CAP }
+{
+    planet_with(alloc, 1, WORKSHOPS, 163, units)
+}
+
+/// The account of player 1, with these technologies and so many units.
+fn account_with(alloc: Global, n: [u8; 14], units: u32) -> Result<Account, AllocError>
+    requires levels { AreTechsWithinCaps n [] }
+    requires units { units ≤ UNITS }
+{
     Ok(Account {
         player: Player { k: 1 },
-        techs: Techs { n: [0; 14] },
+        techs: Techs { n },
         planets: [HOME].to_vec(alloc)?,
-        units: 0,
+        units,
+        research: Vec::new(alloc),
     })
+}
+
+/// The account of player 1, without technologies and units.
+#[tactic(auto, using(account_cell::proofs::Queues::caps_fresh))]
+fn account(alloc: Global) -> Result<Account, AllocError> {
+    account_with(alloc, [0; 14], 0)
+}
+
+/// The same, with technologies and so many units.
+#[tactic(auto, using(crate::proofs::Fresh::levels_learned))]
+fn learned(alloc: Global, units: u32) -> Result<Account, AllocError>
+    requires { units ≤ UNITS }
+{
+    account_with(alloc, LEARNED, units)
 }
 
 /// Player 1 asks, and this planet stands at the place.
@@ -67,11 +115,28 @@ fn parts(alloc: Global, planet: Planet) -> Result<Parts, AllocError> {
     })
 }
 
+/// Whether the caller's account counts the units of the planet.
+#[tactic(auto, using(crate::proofs::Fresh::counts))]
+fn is_counted(parts: &Parts) -> bool
+    ensures { IsTrue result → AreCounted parts.now.caller parts.now.from }
+{
+    let Some(account) = &parts.caller else {
+        return true;
+    };
+    let Some(planet) = &parts.from else {
+        return true;
+    };
+    planet.unit_total() <= account.units
+}
+
 /// What a line comes to at a moment.
 fn asked(alloc: Global, parts: &mut Parts, line: &[u8], moment: u64) -> Result<Acted, Fail>
     requires { moment ≤ LATEST }
 {
     let req = Request::read(line).ok_or("no request")?;
+    if !is_counted(parts) {
+        return Err(Fail::from("units are not counted"));
+    }
     Ok(act(alloc, parts, &RULES, &req, moment)?)
 }
 
@@ -108,12 +173,14 @@ fn only_the_caller_is_shown_the_planet(rt: HostRuntime) -> Result<(), Fail> {
     let alloc = rt.alloc();
     let mut own = parts(alloc, planet(alloc, 1, 163, 500))?;
     let text =
-        b"planet 1:1:1 1 -20 163 0\nstock 500 500 0\nhourly 20 10 0\nlimit 10000 10000 10000\nenergy 0 0\ndebris 0 0\n";
+        b"planet 1:1:1 1 -20 163 0\nstock 500 500 500\nhourly 20 10 0\nlimit 10000 10000 10000\nenergy 0 0\ndebris 0 0\n";
     grants(&rt, alloc, &mut own, b"planet 1:1:1", text)?;
     let mut other = parts(alloc, planet(alloc, 2, 163, 500))?;
     refuses(&rt, alloc, &mut other, b"planet 1:1:1", NOT_YOURS)?;
     refuses(&rt, alloc, &mut other, b"build 1:1:1 metalmine", NOT_YOURS)?;
     refuses(&rt, alloc, &mut other, b"set 1:1:1 metalmine 3", NOT_YOURS)?;
+    refuses(&rt, alloc, &mut other, b"research 1:1:1 energy", NOT_YOURS)?;
+    refuses(&rt, alloc, &mut other, b"yard 1:1:1 launcher 1", NOT_YOURS)?;
     Ok(())
 }
 
@@ -126,6 +193,8 @@ fn who_is_no_player_and_what_is_no_planet_is_told(rt: HostRuntime) -> Result<(),
     };
     refuses(&rt, alloc, &mut nobody, b"planet 1:1:1", NO_PLAYER)?;
     refuses(&rt, alloc, &mut nobody, b"build 1:1:1 metalmine", NO_PLAYER)?;
+    refuses(&rt, alloc, &mut nobody, b"research 1:1:1 energy", NO_PLAYER)?;
+    refuses(&rt, alloc, &mut nobody, b"account", NO_PLAYER)?;
     let mut nowhere = Parts {
         caller: Some(account(alloc)?),
         from: None,
@@ -138,7 +207,14 @@ fn who_is_no_player_and_what_is_no_planet_is_told(rt: HostRuntime) -> Result<(),
         b"set 1:1:1 metalmine 3",
         NO_PLANET,
     )?;
-    refuses(&rt, alloc, &mut nowhere, b"account", NOT_BUILT)?;
+    refuses(
+        &rt,
+        alloc,
+        &mut nowhere,
+        b"yard 1:1:1 launcher 1",
+        NO_PLANET,
+    )?;
+    refuses(&rt, alloc, &mut nowhere, b"fleets", NOT_BUILT)?;
     Ok(())
 }
 
@@ -161,7 +237,7 @@ fn a_building_starts_and_the_next_one_waits(rt: HostRuntime) -> Result<(), Fail>
         b"waits 2\n",
     )?;
     let text =
-        b"planet 1:1:1 1 -20 163 0\nstock 440 485 0\nhourly 20 10 0\nlimit 10000 10000 10000\nenergy 0 0\ndebris 0 0\nbuilding 0 metalmine 1 108\nwaiting 0 crystalstore\n";
+        b"planet 1:1:1 1 -20 163 0\nstock 440 485 500\nhourly 20 10 0\nlimit 10000 10000 10000\nenergy 0 0\ndebris 0 0\nbuilding 0 metalmine 1 108\nwaiting 0 crystalstore\n";
     grants(&rt, alloc, &mut own, b"planet 1:1:1", text)?;
     Ok(())
 }
@@ -172,7 +248,7 @@ fn a_work_is_set(rt: HostRuntime) -> Result<(), Fail> {
     let mut own = parts(alloc, planet(alloc, 1, 163, 500))?;
     grants(&rt, alloc, &mut own, b"set 1:1:1 satellite 3", b"")?;
     let text =
-        b"planet 1:1:1 1 -20 163 0\nstock 500 500 0\nhourly 20 10 0\nlimit 10000 10000 10000\nenergy 0 0\ndebris 0 0\nset satellite 3\n";
+        b"planet 1:1:1 1 -20 163 0\nstock 500 500 500\nhourly 20 10 0\nlimit 10000 10000 10000\nenergy 0 0\ndebris 0 0\nset satellite 3\n";
     grants(&rt, alloc, &mut own, b"planet 1:1:1", text)?;
     Ok(())
 }
@@ -222,23 +298,77 @@ fn no_building_rises_above_its_cap(rt: HostRuntime) -> Result<(), Fail> {
 #[test]
 fn an_account_lists_its_technologies_and_planets(rt: HostRuntime) -> Result<(), Fail> {
     let alloc = rt.alloc();
-    let account = Account {
-        player: Player { k: 7 },
-        techs: Techs {
-            n: [2, 0, 0, 0, 0, 0, 0, 0, 0, 3, 0, 0, 0, 0],
-        },
-        planets: [
-            HOME,
-            Coord {
-                g: 9,
-                s: 499,
-                p: 15,
-            },
-        ]
-        .to_vec(alloc)?,
-        units: 12,
-    };
-    let text = b"account 7 12 0 4\ntech energy 2\ntech computer 3\nplanet 1:1:1\nplanet 9:499:15\n";
+    let account = learned(alloc, 12)?;
+    let text = b"account 1 12 0 1\ntech energy 3\ntech graviton 1\nplanet 1:1:1\n";
     assert!(rt; account_lines(alloc, &account)?.as_slice() == text.as_slice());
+    Ok(())
+}
+
+#[test]
+fn a_batch_is_paid_and_counts_for_the_account(rt: HostRuntime) -> Result<(), Fail> {
+    let alloc = rt.alloc();
+    let mut own = parts(alloc, workshops(alloc, 9000))?;
+    let line = b"yard 1:1:1 launcher 2";
+    grants(&rt, alloc, &mut own, line, b"starts 2 1440\n")?;
+    grants(&rt, alloc, &mut own, line, b"waits 2\n")?;
+    let text =
+        b"planet 1:1:1 1 -20 163 4\nstock 1000 9000 9000\nhourly 20 10 0\nlimit 10000 10000 10000\nenergy 0 0\ndebris 0 0\nlevel robotics 2\nlevel shipyard 1\nlevel lab 1\nyard 0 launcher 2 1440\nyardwaiting 0 launcher 2\n";
+    grants(&rt, alloc, &mut own, b"planet 1:1:1", text)?;
+    let account = b"account 1 4 0 1\nplanet 1:1:1\n";
+    grants(&rt, alloc, &mut own, b"account", account)?;
+    Ok(())
+}
+
+#[test]
+fn a_technology_starts_and_the_next_one_waits(rt: HostRuntime) -> Result<(), Fail> {
+    let alloc = rt.alloc();
+    let mut own = parts(alloc, workshops(alloc, 1000))?;
+    let line = b"research 1:1:1 energy";
+    grants(&rt, alloc, &mut own, line, b"starts 1 1440\n")?;
+    grants(&rt, alloc, &mut own, line, b"waits 2\n")?;
+    let text =
+        b"account 1 0 0 1\nplanet 1:1:1\nresearch 0 energy 1 1440 1:1:1\nwaiting 0 energy 1:1:1\n";
+    grants(&rt, alloc, &mut own, b"account", text)?;
+    let planet =
+        b"planet 1:1:1 1 -20 163 4\nstock 1000 200 600\nhourly 20 10 0\nlimit 10000 10000 10000\nenergy 0 0\ndebris 0 0\nlevel robotics 2\nlevel shipyard 1\nlevel lab 1\n";
+    grants(&rt, alloc, &mut own, b"planet 1:1:1", planet)?;
+    Ok(())
+}
+
+#[test]
+fn each_refusal_of_units_is_told(rt: HostRuntime) -> Result<(), Fail> {
+    let alloc = rt.alloc();
+    let mut own = Parts {
+        caller: Some(learned(alloc, 99_990)?),
+        from: Some(workshops(alloc, 1_000_000)),
+    };
+    refuses(&rt, alloc, &mut own, b"yard 1:1:1 smalldome 2", LEVEL_CAP)?;
+    refuses(&rt, alloc, &mut own, b"yard 1:1:1 smalldome 1", REQUIRES)?;
+    refuses(&rt, alloc, &mut own, b"yard 1:1:1 launcher 501", POOR)?;
+    refuses(&rt, alloc, &mut own, b"yard 1:1:1 launcher 11", CEILING)?;
+    'batches: for _ in 0..5u8 {
+        let acted = asked(alloc, &mut own, b"yard 1:1:1 launcher 2", 0)?;
+        assert_eq!(rt; acted.code, 0);
+    }
+    refuses(&rt, alloc, &mut own, b"yard 1:1:1 smalldome 2", QUEUE_FULL)?;
+    Ok(())
+}
+
+#[test]
+fn each_refusal_of_research_is_told(rt: HostRuntime) -> Result<(), Fail> {
+    let alloc = rt.alloc();
+    let mut own = Parts {
+        caller: Some(learned(alloc, 0)?),
+        from: Some(workshops(alloc, 10_000)),
+    };
+    refuses(&rt, alloc, &mut own, b"research 1:1:1 graviton", LEVEL_CAP)?;
+    refuses(&rt, alloc, &mut own, b"research 1:1:1 plasma", REQUIRES)?;
+    'items: for _ in 0..5u8 {
+        let acted = asked(alloc, &mut own, b"research 1:1:1 energy", 0)?;
+        assert_eq!(rt; acted.code, 0);
+    }
+    refuses(&rt, alloc, &mut own, b"research 1:1:1 graviton", QUEUE_FULL)?;
+    let mut poor = parts(alloc, workshops(alloc, 799))?;
+    refuses(&rt, alloc, &mut poor, b"research 1:1:1 energy", POOR)?;
     Ok(())
 }

@@ -1,21 +1,21 @@
-ghost use Rattle.std.specs.Prelude.{◌≡◌, ◌++◌, ◌≤◌, map, IfOk, OnOk};
+ghost use Rattle.std.specs.Prelude.{◌≡◌, ◌++◌, ◌≤◌, IfOk, OnOk};
 ghost use Rattle.account_cell.specs.Account.{Shows, account_fields};
-ghost use Rattle.base_ids.specs.declared.coord.Coord.{Coord};
 ghost use Rattle.catalog.specs.declared.settings.TheConstants.{TOP_SPEED};
-ghost use Rattle.planet_cell.specs.Planet.{fields_of, item_of, items_of};
-ghost use Rattle.tick_model.specs.Lines.{account_text, head_of, own_planet_lines, planet_text, queue_lines, slots_of, units_of, waiting_lines, yield_of};
+ghost use Rattle.planet_cell.specs.Planet.{fields_of, queue_of};
+ghost use Rattle.tick_model.specs.Lines.{account_text, head_of, own_planet_lines, planet_text, slots_of, units_of, yield_of};
 ghost use Rattle.tick_model.specs.Views.{View};
 
+use crate::queues::{push_batches, push_buildings, push_researches};
 use account_cell::Account;
 use base_ids::Coord;
 use base_text::Bytes;
 use catalog::{Kind, Technology};
-use planet_cell::{BuildingItem, Planet};
+use planet_cell::Planet;
 use rates::{Hourly, Resources, whole_units};
 use reply_text::{
-    AccountHead, PlanetHead, RunningBuilding, Units, push_account, push_building, push_debris,
-    push_energy, push_hourly, push_levels, push_limit, push_own_planet, push_planet, push_settings,
-    push_stock, push_technologies, push_units, push_waiting_building,
+    AccountHead, PlanetHead, Units, push_account, push_debris, push_energy, push_hourly,
+    push_levels, push_limit, push_own_planet, push_planet, push_settings, push_stock,
+    push_technologies, push_units,
 };
 use std::alloc::{AllocError, Global};
 
@@ -56,7 +56,7 @@ fn head(planet: &Planet) -> PlanetHead
 #[tactic(auto, unfolding(tick_model::specs::Lines::planet_text))]
 pub fn planet_lines(alloc: Global, speed: u32, planet: &Planet) -> Result<Bytes, AllocError>
     requires { speed ≤ TOP_SPEED }
-    ensures { IfOk result (λ body. body ≡ planet_text speed planet.now.at (fields_of planet.now) (items_of planet.now)) }
+    ensures { IfOk result (λ body. body ≡ planet_text speed planet.now.at (fields_of planet.now) (queue_of planet.now)) }
 {
     let mut body = Bytes::new(alloc);
     let yields = planet.yields(speed);
@@ -69,36 +69,9 @@ pub fn planet_lines(alloc: Global, speed: u32, planet: &Planet) -> Result<Bytes,
     push_levels(alloc, &mut body, &planet.levels)?;
     push_settings(alloc, &mut body, &planet.tenths)?;
     push_units(alloc, &mut body, &planet.units)?;
-    push_queue(alloc, &mut body, planet.buildings.as_slice())?;
+    push_buildings(alloc, &mut body, planet.buildings.as_slice())?;
+    push_batches(alloc, &mut body, planet.yard.as_slice())?;
     Ok(body)
-}
-
-/// Appends the lines of a building queue: of the building that runs, and of those that wait.
-fn push_queue(alloc: Global, body: &mut Bytes, items: &[BuildingItem]) -> Result<(), AllocError>
-    ensures { OnOk result ((at : Coord) → body.new ≡ body.old ++ queue_lines (map (item_of at) items.now)) }
-{
-    let Some((first, later)) = items.split_first() else {
-        return Ok(());
-    };
-    let running = RunningBuilding {
-        number: first.number,
-        kind: first.kind.kind,
-        level: first.level,
-        second: first.second,
-    };
-    push_building(alloc, body, running)?;
-    push_waiting(alloc, body, later)
-}
-
-/// Appends a line for each item that waits.
-#[tactic(auto, using(crate::proofs::Listing::next_waiting))]
-fn push_waiting(alloc: Global, body: &mut Bytes, items: &[BuildingItem]) -> Result<(), AllocError>
-    ensures { OnOk result ((at : Coord) → body.new ≡ body.old ++ waiting_lines (map (item_of at) items.now)) }
-{
-    'items: for item in items {
-        push_waiting_building(alloc, body, item.number, item.kind.kind)?;
-    }
-    Ok(())
 }
 
 /// The lines that show an account. It fails only if memory runs out.
@@ -117,6 +90,7 @@ pub fn account_lines(alloc: Global, account: &Account) -> Result<Bytes, AllocErr
     push_account(alloc, &mut body, head)?;
     push_technologies(alloc, &mut body, &account.techs.n)?;
     push_planets(alloc, &mut body, account.planets.as_slice())?;
+    push_researches(alloc, &mut body, account.research.as_slice())?;
     Ok(body)
 }
 

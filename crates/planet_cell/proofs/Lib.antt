@@ -1,3 +1,4 @@
+pub mod Batches
 pub mod Caps
 pub mod Counts
 pub mod Granting
@@ -5,3 +6,6 @@ pub mod Queues
 pub mod Seconds
 pub mod Spans
 pub mod Starts
+pub mod Ticks
+pub mod Totals
+pub mod Yards

@@ -64,16 +64,16 @@ finishes speed planet next at (head ∷ rest) later queue first place here some 
     works ∙ (λ i. result (equal i) (spots i) (lists i)) in
     ap (λ (x : Works). record { own = of_planet x.planet; queue = x.queue }) all
 
--- the last item gets its number
-pub numbers : (number : ℕ) (at : Coord) (items : List BuildingItem) (place : ℕ) (last next : BuildingItem) → place + 1 ≡ length items → last ≡ get_or items place last
-    → item_of at next ≡ record (item_of at last) { number = number } → map (item_of at) (slice_set items place next) ≡ numbered number (map (item_of at) items)
-numbers number at [] place last next here is same = absurd (omega arith)
-numbers number at (item ∷ []) zero last next here is same = ap (λ (x : Item). x ∷ []) (same ∙ ap (λ (x : BuildingItem). record (item_of at x) { number = number }) is)
-numbers number at (item ∷ []) (suc place) last next here is same = absurd (omega arith)
-numbers number at (item ∷ second ∷ later) zero last next here is same = absurd (omega arith)
-numbers number at (item ∷ second ∷ later) (suc place) last next here is same =
-    let rest = numbers number at (second ∷ later) place last next (omega arith) is same in
-    ap (λ (x : List Item). item_of at item ∷ x) rest
+-- the last item of a queue gets its number
+pub numbers : {X : Type 0} (item_for : X → Item) (number : ℕ) (items : List X) (place : ℕ) (last next : X) → place + 1 ≡ length items → last ≡ get_or items place last
+    → item_for next ≡ record (item_for last) { number = number } → map item_for (slice_set items place next) ≡ numbered number (map item_for items)
+numbers item_for number [] place last next here is same = absurd (omega arith)
+numbers item_for number (item ∷ []) zero last next here is same = ap (λ (x : Item). x ∷ []) (same ∙ ap (λ x. record (item_for x) { number = number }) is)
+numbers item_for number (item ∷ []) (suc place) last next here is same = absurd (omega arith)
+numbers item_for number (item ∷ second ∷ later) zero last next here is same = absurd (omega arith)
+numbers item_for number (item ∷ second ∷ later) (suc place) last next here is same =
+    let rest = numbers item_for number (second ∷ later) place last next (omega arith) is same in
+    ap (λ (x : List Item). item_for item ∷ x) rest
 
 -- if the first item is done at a second that a clock can tell, a building runs
 pub runs : (items : List BuildingItem) (first : BuildingItem) → Some first ≡ slice_get items 0 → first.second ≤ LATEST → Runs items

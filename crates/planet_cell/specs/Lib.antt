@@ -1,3 +1,4 @@
 pub mod Bounds
 pub mod Planet
 pub mod Queue
+pub mod Yard

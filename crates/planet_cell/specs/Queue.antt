@@ -4,13 +4,13 @@ use Rattle.base_ids.specs.declared.cell_id.CellId.TheVariants.{Planet as PlanetI
 use Rattle.base_ids.specs.declared.coord.Coord.{Coord}
 use Rattle.catalog.specs.Levels.{level_cap_of}
 use Rattle.catalog.specs.declared.kind.Kind.{Kind}
-use Rattle.planet_cell.specs.Planet.{fields_of, items_of}
+use Rattle.planet_cell.specs.Planet.{fields_of, buildings_of}
 use Rattle.planet_cell.specs.declared.building_item.BuildingItem.{BuildingItem}
-use Rattle.planet_cell.specs.declared.building_item.Placed.{Placed}
-use Rattle.planet_cell.specs.declared.building_item.Placed.TheVariants.{Starts, Waits}
 use Rattle.planet_cell.specs.declared.planet.Planet.{Planet}
 use Rattle.ports.specs.declared.clock.TheConstants.{LATEST}
 use Rattle.tick_model.specs.declared.codes.TheConstants.{MOST_QUEUED}
+use Rattle.tick_model.specs.declared.placed.Placed.{Placed}
+use Rattle.tick_model.specs.declared.placed.Placed.TheVariants.{Starts, Waits}
 use Rattle.tick_model.specs.Buildings.{Built, Works, can_pay, done, next_duration, next_price, pays, started}
 use Rattle.tick_model.specs.Production.{level_of}
 use Rattle.tick_model.specs.Refusals.{is_empty, queued}
@@ -18,11 +18,11 @@ use Rattle.tick_model.specs.Universe.{Buildings, Item, PlanetFields, of_planet}
 
 -- a planet and its queue
 abbrev pub works_of : Planet → Works
-works_of planet = record { planet = fields_of planet; queue = items_of planet }
+works_of planet = record { planet = fields_of planet; queue = buildings_of planet }
 
 -- what a planet has of its own and its queue
 abbrev pub built_of : Planet → Built
-built_of planet = record { own = of_planet (fields_of planet); queue = items_of planet }
+built_of planet = record { own = of_planet (fields_of planet); queue = buildings_of planet }
 
 -- a building runs, and is done at a second that a clock can tell
 abbrev pub Runs : List BuildingItem → Type 0
@@ -42,7 +42,8 @@ pub record CanTake (planet : PlanetFields) (items : List Item) (kind : Kind) : T
 
 -- an item that is ordered at a place, and whose number isn't drawn yet
 abbrev pub new_item : Coord → Kind → Item
-new_item at kind = record { number = 0; cell = PlanetId at; class = Buildings; kind = kind; level = 0; second = 0 }
+new_item at kind =
+    record { number = 0; cell = PlanetId at; class = Buildings; kind = kind; place = at; level = 0; left = 0; unit_seconds = 0; second = 0 }
 
 -- An order in an empty queue is paid and starts at once; else it waits.
 abbrev pub ordered : ℕ → ℕ → PlanetFields → List Item → Item → Works

@@ -14,11 +14,3 @@ pub struct BuildingItem {
     pub second: u64,
     pub ghost in_time: { second < 2 ^ 42 },
 }
-
-/// What comes of an order: it starts at once, and the level will be reached at the second; or it waits at this place of the
-/// queue, counted from 1.
-#[derive(Clone, Copy, Debug, PartialEq, Eq)]
-pub enum Placed {
-    Starts { level: u8, second: u64 },
-    Waits { place: usize },
-}

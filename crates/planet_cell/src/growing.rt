@@ -10,18 +10,19 @@ use std::alloc::AllocError;
 impl Planet {
     ghost use Rattle.std.specs.Prelude.{◌≡◌, ◌≤◌, IfOk};
     ghost use Rattle.catalog.specs.declared.settings.TheConstants.{TOP_SPEED};
-    ghost use Rattle.planet_cell.specs.Planet.{AreSame, fields_of, items_of};
+    ghost use Rattle.planet_cell.specs.Planet.{AreSame, batches_of, buildings_of, fields_of};
     ghost use Rattle.rates.specs.Times.{times};
     ghost use Rattle.tick_model.specs.Production.{planet_second};
 
-    /// Brings the planet so many seconds further, in which no building is done. The speed is 1 to `catalog::TOP_SPEED`.
+    /// Brings the planet so many seconds further, in which no building and no unit is done. The speed is 1 to `catalog::TOP_SPEED`.
     ///
-    /// The stocks grow, and the queue stays. No loop over the seconds is made.
+    /// The stocks grow, and the queues stay. No loop over the seconds is made.
     #[tactic(auto, using(crate::proofs::Seconds::seconds_of_planets))]
     pub fn advance(&mut self, seconds: u64, speed: u32)
         requires { speed ≤ TOP_SPEED }
         ensures fields { fields_of self.new ≡ times seconds (planet_second speed) (fields_of self.old) }
-        ensures items { items_of self.new ≡ items_of self.old }
+        ensures buildings { buildings_of self.new ≡ buildings_of self.old }
+        ensures yard { batches_of self.new ≡ batches_of self.old }
         ensures at { self.new.at ≡ self.old.at }
     {
         let limits = self.limits();
@@ -33,6 +34,8 @@ impl Planet {
     pub fn copy(&self) -> Result<Planet, AllocError>
         ensures { IfOk result (AreSame self.now) }
     {
+        let buildings = Vec::from_slice(*self.buildings.allocator(), &self.buildings)?;
+        let yard = Vec::from_slice(*self.yard.allocator(), &self.yard)?;
         Ok(Planet {
             at: self.at,
             owner: self.owner,
@@ -43,7 +46,8 @@ impl Planet {
             stock: self.stock,
             debris: self.debris,
             units: self.units,
-            buildings: self.buildings.clone()?,
+            buildings,
+            yard,
         })
     }
 }

@@ -1,6 +1,8 @@
-//! One planet: what it is at a moment, how it comes to a later one, and how its buildings are ordered and done.
+//! One planet: what it is at a moment, how it comes to a later one, and how its buildings and its units are ordered and done.
 #![tactic(auto)]
 
+mod batch;
+mod batching;
 mod building_item;
 mod growing;
 mod ordering;
@@ -10,11 +12,18 @@ mod planet;
 mod queueing;
 mod reading;
 mod refusing;
+mod researching;
+mod running;
+mod yard;
+mod yard_refusing;
 
-pub use building_item::{BuildingItem, Placed};
+pub use batch::Batch;
+pub use building_item::BuildingItem;
 pub use growing::seconds_add_up;
-pub use places::place_of;
+pub use places::{place_of, place_of_unit};
 pub use planet::Planet;
 
 #[cfg(test)]
 mod tests;
+#[cfg(test)]
+mod yard_tests;

@@ -1,8 +1,11 @@
 ghost use Rattle.std.specs.Prelude.{◌≡◌, ◌<◌};
 ghost use Rattle.catalog.specs.Kinds.{place_in};
-ghost use Rattle.catalog.specs.declared.classes.TheConstants.{BUILDINGS, WORKS};
+ghost use Rattle.catalog.specs.declared.classes.TheConstants.{BUILDINGS, UNIT_KINDS, WORKS};
 
-use catalog::{Building, Kind, WORKS, Work};
+use catalog::{Building, Kind, UNIT_KINDS, Unit, WORKS, Work};
+
+/// The place of the satellites in the order of `catalog::UNIT_KINDS`.
+pub(crate) const SATELLITES: usize = 13;
 
 /// The place of a building in the order of `catalog::BUILDINGS`, counted from 0.
 pub fn place_of(building: Building) -> usize
@@ -32,4 +35,13 @@ pub fn place_of_work(work: Work) -> usize
     ensures within { result < 5 }
 {
     place_in(&WORKS, work.kind)
+}
+
+/// The place of a unit in the order of `catalog::UNIT_KINDS`, counted from 0.
+#[tactic(auto, using(crate::proofs::Counts::unit_within))]
+pub fn place_of_unit(unit: Unit) -> usize
+    ensures value { result ≡ place_in UNIT_KINDS unit.kind }
+    ensures within { result < 22 }
+{
+    place_in(&UNIT_KINDS, unit.kind)
 }

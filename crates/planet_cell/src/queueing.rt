@@ -6,7 +6,7 @@ use crate::planet::Planet;
 impl Planet {
     ghost use Rattle.std.specs.Prelude.{◌≡◌, ◌≤◌, slice_get};
     ghost use Rattle.catalog.specs.declared.settings.TheConstants.{TOP_SPEED};
-    ghost use Rattle.planet_cell.specs.Planet.{fields_of, items_of};
+    ghost use Rattle.planet_cell.specs.Planet.{batches_of, buildings_of, fields_of};
     ghost use Rattle.planet_cell.specs.Queue.{Runs, built_of, finished, works_of};
     ghost use Rattle.ports.specs.declared.clock.TheConstants.{LATEST};
     ghost use Rattle.tick_model.specs.Buildings.{starts_first};
@@ -19,11 +19,13 @@ impl Planet {
         requires queue { Runs self.old.buildings.items }
         requires speed_from { 1 ≤ speed }
         requires speed_to { speed ≤ TOP_SPEED }
-        ensures built { built_of self.new ≡ finished speed (fields_of self.old) (items_of self.old) }
+        ensures built { built_of self.new ≡ finished speed (fields_of self.old) (buildings_of self.old) }
+        ensures yard { batches_of self.new ≡ batches_of self.old }
         ensures at { self.new.at ≡ self.old.at }
     {
         let done = self.buildings.remove(0);
-        self.levels[place_of(done.kind)] += 1;
+        let place = place_of(done.kind);
+        self.levels[place] += 1;
         self.start_waiting(done.second, speed);
     }
 
@@ -33,7 +35,8 @@ impl Planet {
         requires second { second ≤ LATEST }
         requires speed_from { 1 ≤ speed }
         requires speed_to { speed ≤ TOP_SPEED }
-        ensures works { works_of self.new ≡ starts_first speed second (fields_of self.old) (items_of self.old) }
+        ensures works { works_of self.new ≡ starts_first speed second (fields_of self.old) (buildings_of self.old) }
+        ensures yard { batches_of self.new ≡ batches_of self.old }
         ensures at { self.new.at ≡ self.old.at }
     {
         'waiting: while let Some(item) = self.first_building() {

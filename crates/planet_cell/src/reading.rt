@@ -1,21 +1,19 @@
-use crate::places::place_of;
+use crate::places::{SATELLITES, place_of};
 use crate::planet::Planet;
 use catalog::Building;
 use rates::{Hourly, Resources, Works, hourly, storage_of};
 
-/// The place of the satellites in the order of `catalog::UNIT_KINDS`.
-const SATELLITE: usize = 13;
-
 impl Planet {
-    ghost use Rattle.std.specs.Prelude.{◌≡◌, ◌≤◌};
+    ghost use Rattle.std.specs.Prelude.{◌≡◌, ◌+◌, ◌≤◌, sum};
     ghost use Rattle.catalog.specs.Levels.{level_cap_of};
     ghost use Rattle.catalog.specs.declared.settings.TheConstants.{TOP_SPEED};
-    ghost use Rattle.planet_cell.specs.Planet.{fields_of};
+    ghost use Rattle.planet_cell.specs.Planet.{batches_of, fields_of};
     ghost use Rattle.rates.specs.Energy.{IsInRange};
     ghost use Rattle.rates.specs.Production.{IsStorable};
     ghost use Rattle.rates.specs.Yields.{AreSmall};
     ghost use Rattle.tick_model.specs.Production.{level_of, limits_of, works_of, yields_of};
     ghost use Rattle.tick_model.specs.Refusals.{used_fields};
+    ghost use Rattle.tick_model.specs.Views.{units_left};
 
     /// The level of a building.
     #[tactic(auto, using(crate::proofs::Caps::kind_within), unfolding(tick_model::specs::Production::level_of))]
@@ -27,7 +25,7 @@ impl Planet {
     }
 
     /// The works of the planet, which yield by their levels, tenths and number.
-    #[tactic(auto, using(crate::proofs::Caps::caps), unfolding(tick_model::specs::Production::level_of, tick_model::specs::Production::works_of))]
+    #[tactic(auto, using(crate::proofs::Caps::caps, crate::proofs::Totals::each_within), unfolding(tick_model::specs::Production::level_of, tick_model::specs::Production::works_of))]
     pub fn works(&self) -> Works
         ensures value { result ≡ works_of (fields_of self.now) }
         ensures within { IsInRange result }
@@ -39,7 +37,7 @@ impl Planet {
             deuterium,
             solar,
             sets: self.tenths,
-            satellites: self.units[SATELLITE],
+            satellites: self.units[SATELLITES],
             t: self.temperature,
         }
     }
@@ -73,5 +71,15 @@ impl Planet {
             used += u16::from(*level);
         }
         used
+    }
+
+    /// How many units the planet has, those that its yard is to build included: at most `catalog::UNITS`.
+    #[tactic(auto, using(crate::proofs::Totals::left_items))]
+    pub fn unit_total(&self) -> u32
+        ensures { result ≡ sum (fields_of self.now).units + units_left (batches_of self.now) }
+    {
+        let standing: u32 = self.units.iter().sum();
+        let left: u32 = self.yard.iter().map(|batch| batch.left).sum();
+        standing + left
     }
 }

@@ -3,7 +3,7 @@ ghost use Rattle.ports.specs.declared.clock.TheConstants.{LATEST};
 ghost use Rattle.catalog.specs.declared.amounts.TheConstants.{CAP};
 ghost use Rattle.rates.specs.Stock.{IsWithinCap};
 
-use crate::{BuildingItem, Placed, Planet};
+use crate::{BuildingItem, Planet};
 use base_ids::{Coord, Player};
 use catalog::{Building, CAP, Class, Kind, Techs, Tenths, Work};
 use ports::LATEST;
@@ -11,10 +11,10 @@ use rates::{GRAINS, Resources};
 use std::alloc::{AllocError, Global};
 use std::process::Abort;
 use std::test::Fail;
-use tick_model::{Debris, LEVEL_CAP, NO_FIELDS, POOR, QUEUE_FULL, REQUIRES};
+use tick_model::{Debris, LEVEL_CAP, NO_FIELDS, POOR, Placed, QUEUE_FULL, REQUIRES};
 
 /// An account without technologies.
-const NO_TECHS: Techs = Techs { n: [0; 14] };
+pub(crate) const NO_TECHS: Techs = Techs { n: [0; 14] };
 
 /// A planet without buildings, at -20 degrees, with 163 fields and these stocks in grains.
 fn fresh(alloc: Global, stock: Resources) -> Planet
@@ -34,11 +34,12 @@ fn fresh(alloc: Global, stock: Resources) -> Planet
         },
         units: [0; 22],
         buildings: Vec::new(alloc),
+        yard: Vec::new(alloc),
     }
 }
 
 /// A planet with so many whole units.
-fn planet(alloc: Global, metal: u64, crystal: u64, deuterium: u64) -> Planet
+pub(crate) fn planet(alloc: Global, metal: u64, crystal: u64, deuterium: u64) -> Planet
     requires metal { metal ≤ CAP }
     requires crystal { crystal ≤ CAP }
     requires deuterium { deuterium ≤ CAP }
@@ -55,7 +56,12 @@ fn planet(alloc: Global, metal: u64, crystal: u64, deuterium: u64) -> Planet
 
 /// Orders a building at speed 1, which nothing refuses.
 #[tactic(auto, using(crate::proofs::Granting::can_take))]
-fn order(rt: &impl Abort, planet: &mut Planet, kind: Kind, moment: u64) -> Result<Placed, Fail>
+pub(crate) fn order(
+    rt: &impl Abort,
+    planet: &mut Planet,
+    kind: Kind,
+    moment: u64,
+) -> Result<Placed, Fail>
     requires { moment ≤ LATEST }
 {
     let building = Building::of(kind).ok_or("no building")?;
@@ -65,7 +71,7 @@ fn order(rt: &impl Abort, planet: &mut Planet, kind: Kind, moment: u64) -> Resul
 
 /// The first building is done at speed 1.
 #[tactic(auto, using(crate::proofs::Starts::runs))]
-fn finish(rt: &impl Abort, planet: &mut Planet) -> Result<(), Fail> {
+pub(crate) fn finish(rt: &impl Abort, planet: &mut Planet) -> Result<(), Fail> {
     let first = planet.first_building().ok_or("no building")?;
     assert!(rt; first.second <= LATEST);
     planet.finish_building(1);
@@ -89,7 +95,7 @@ fn a_building_is_paid_and_starts_at_once(rt: HostRuntime) -> Result<(), Fail> {
     assert_eq!(rt;
         placed,
         Placed::Starts {
-            level: 1,
+            amount: 1,
             second: 108
         }
     );
@@ -111,7 +117,7 @@ fn three_ordered(rt: &impl Abort, planet: &mut Planet) -> Result<(), Fail> {
     assert_eq!(rt;
         order(rt, planet, Kind::MetalMine, 0)?,
         Placed::Starts {
-            level: 1,
+            amount: 1,
             second: 108
         }
     );
@@ -172,7 +178,7 @@ fn a_waiting_building_that_cannot_be_paid_is_dropped(rt: HostRuntime) -> Result<
 fn robotics_shorten_what_starts_after_them(rt: HostRuntime) -> Result<(), Fail> {
     let mut planet = planet(rt.alloc(), 9000, 9000, 9000);
     let want = Placed::Starts {
-        level: 1,
+        amount: 1,
         second: 748,
     };
     assert_eq!(rt; order(&rt, &mut planet, Kind::Robotics, 0)?, want);
@@ -267,7 +273,7 @@ fn a_work_is_set_and_the_last_item_gets_its_number(rt: HostRuntime) -> Result<()
     let _ = order(&rt, &mut planet, Kind::MetalMine, 0)?;
     let _ = order(&rt, &mut planet, Kind::SolarPlant, 0)?;
     assert_eq!(rt; planet.buildings.len(), 2);
-    planet.number_last(77);
+    planet.number_last_building(77);
     assert_eq!(rt; planet.buildings.len(), 2);
     assert_eq!(rt;
         (planet.buildings[0].number, planet.buildings[1].number),

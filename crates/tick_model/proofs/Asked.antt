@@ -9,7 +9,7 @@ use Rattle.base_ids.specs.declared.cell_id.CellId.TheVariants.{Account}
 use Rattle.request_text.specs.declared.request.Request.{Request}
 use Rattle.request_text.specs.declared.request.Request.TheVariants.{Planet as PlanetOf, Build, Set}
 use Rattle.tick_model.specs.Requests.{asked, is_listed, names}
-use Rattle.tick_model.specs.Universe.{of_planet, PlanetFields}
+use Rattle.tick_model.specs.Universe.{of_account, of_planet, AccountFields, PlanetFields}
 use Rattle.tick_model.specs.Views.{View, nothing_seen, shown}
 use Rattle.tick_model.proofs.Lists.{and-is, cell-is}
 use Rattle.tick_model.proofs.Writes.{shown-alike}
@@ -50,6 +50,14 @@ shown-planet_at false seen planet is = absurd cc
 pub shown-planet : (some : CellId → Bool) (seen : CellId → View) (cell : CellId) (planet : PlanetFields) → (shown some seen cell).own ≡ of_planet planet
     → (some cell ≡ true) × ((seen cell).own ≡ of_planet planet)
 shown-planet some seen cell planet is = shown-planet_at (some cell) (seen cell) planet is
+
+shown-account_at : (b : Bool) (seen : View) (account : AccountFields) → (cond b seen nothing_seen).own ≡ of_account account → b ≡ true
+shown-account_at true seen account is = refl
+shown-account_at false seen account is = absurd cc
+
+-- so is what is shown as an account
+pub shown-account : (some : CellId → Bool) (seen : CellId → View) (cell : CellId) (account : AccountFields) → (shown some seen cell).own ≡ of_account account → some cell ≡ true
+shown-account some seen cell account is = shown-account_at (some cell) (seen cell) account is
 
 -- what is asked for is shown as it is
 pub shown-there : (some : CellId → Bool) (seen : CellId → View) (cell : CellId) → some cell ≡ true → shown some seen cell ≡ seen cell

@@ -1,196 +1,226 @@
--- What it does to a state that a building is done.
-use Rattle.std.proofs.Common.{◌≡◌, ℕ, ◌+◌, ◌<◌, ◌≤◌, inl, inr, Bool, true, false, not, cond, ◌&&◌, List, ◌∷◌, ◌++◌, length, Contains, filter, arith, refl, ap, ◌∙◌, sym, subst}
-use Rattle.std.proofs.lemmas.List.{length-append}
-use Rattle.std.proofs.lemmas.List.Filters.{length-filter_both}
+-- What an event does to a state.
+use Rattle.std.proofs.Common.{◌≡◌, inl, inr, Bool, true, false, cond, ◌&&◌, ◌||◌, List, ◌∷◌, refl, ap, ◌∙◌, sym, subst}
 use Rattle.base_ids.specs.Cells.{same_cell}
 use Rattle.base_ids.specs.declared.cell_id.CellId.{CellId}
 use Rattle.laziness.proofs.Bringing.{test, never}
-use Rattle.tick_model.specs.Buildings.{Built, done}
-use Rattle.tick_model.specs.Events.{Event, built, Owes, effect, event_change, footprint, home, second_of}
-use Rattle.tick_model.specs.Game.{brings}
-use Rattle.tick_model.specs.Requests.{is_there}
-use Rattle.tick_model.specs.Rules.{AreDistinct, IsIn, KeepsRules, same_order}
-use Rattle.tick_model.specs.Universe.{Buildings, Item, Setting, State, same_class}
-use Rattle.tick_model.specs.Views.{holding, shown, view}
-use Rattle.tick_model.proofs.Lists.{cell-is, cell-itself, distinct-append, distinct-filter, distinct-one, fails, from-filter, in-append, not-true}
-use Rattle.tick_model.proofs.Follows.{Follows, IsOrderOf, builds, follows-distinct, follows-in, follows-length, same-order}
-use Rattle.tick_model.proofs.Owns.{brings-same, owned-kept}
-use Rattle.tick_model.proofs.Queues.{buildings-after, buildings-at, queued, standing}
-use Rattle.tick_model.proofs.Writes.{IsWithin, held, inside, is_building_at, outside, seen_after, shown-alike, shown-own, with_buildings, within-buildings, write-buildings}
+use Rattle.tick_model.specs.Buildings.{done}
+use Rattle.tick_model.specs.Changes.{new_queue, owns, put_own, write}
+use Rattle.tick_model.specs.Events.{Event, item_due, Owes, effect, event_change, footprint, home}
+use Rattle.tick_model.specs.Researches.{researched}
+use Rattle.tick_model.specs.Rules.{IsBatch, IsIn, KeepsRules}
+use Rattle.tick_model.specs.Universe.{Own, QueueClass, Buildings, Researches, Yard, Item, Setting, State, same_class}
+use Rattle.tick_model.specs.Views.{View, holding, holding_at, queue_in, shown, stands_in, view}
+use Rattle.tick_model.specs.Yards.{unit_done}
+use Rattle.tick_model.specs.declared.rules.Rules.{Rules}
+use Rattle.tick_model.proofs.Counted.{unit-counted, unit-stays}
+use Rattle.tick_model.proofs.Ends.{Ends, building-ends, research-ends, unit-ends}
+use Rattle.tick_model.proofs.Follows.{follows-in}
+use Rattle.tick_model.proofs.Lists.{cell-is, cell-itself}
+use Rattle.tick_model.proofs.Owns.{IsAlike, Stays, alike-holding, alike-itself, alike-stays, owner_of, put-alike, stays-itself, stays-owner}
+use Rattle.tick_model.proofs.Queues.{queue-new, queue-other, queued, stands-there}
+use Rattle.tick_model.proofs.Staying.{AllStay}
+use Rattle.tick_model.proofs.Writes.{IsWithin, inside, outside, owns_after, shown-alike, shown-own, with_queue, within-queue, write-queue}
 
--- what comes of the cell that owes it
-abbrev pub came : Setting → Item → List Item → State → Built
-came setting item later state = done setting.rules.speed item later (state.own item.cell)
+-- what cells have of their own, and the queue that was due
+abbrev pub came_own : Rules → Event → (CellId → View) → CellId → Own
+came_own rules (item_due Buildings item later) seen = put_own item.cell (done rules.speed item later (owns seen item.cell)).own (owns seen)
+came_own rules (item_due Researches item later) seen = (researched rules.speed item later (owns seen) (owns seen item.cell)).own
+came_own rules (item_due Yard item later) seen = put_own item.cell (unit_done rules.speed item later (owns seen item.cell)).own (owns seen)
 
-abbrev pub after : Setting → Item → List Item → State → State
-after setting item later state = let came = came setting item later state in with_buildings item.cell came.own came.queue state
+abbrev pub came_queue : Rules → Event → (CellId → View) → List Item
+came_queue rules (item_due Buildings item later) seen = (done rules.speed item later (owns seen item.cell)).queue
+came_queue rules (item_due Researches item later) seen = (researched rules.speed item later (owns seen) (owns seen item.cell)).queue
+came_queue rules (item_due Yard item later) seen = (unit_done rules.speed item later (owns seen item.cell)).queue
 
-pub shown-home : (setting : Setting) (item : Item) (later : List Item) (state : State)
-    → (shown (footprint (built item later)) (view setting.cells state) item.cell).own ≡ state.own item.cell
-shown-home setting item later state = shown-own setting.cells (footprint (built item later)) state item.cell (cell-itself item.cell)
+change-is : (rules : Rules) (class : QueueClass) (item : Item) (later : List Item) (seen : CellId → View)
+    → event_change rules (item_due class item later) seen ≡ new_queue (came_own rules (item_due class item later) seen) item.cell class (came_queue rules (item_due class item later) seen)
+change-is rules Buildings item later seen = refl
+change-is rules Researches item later seen = refl
+change-is rules Yard item later seen = refl
 
-pub effect-is : (setting : Setting) (item : Item) (later : List Item) (state : State) → effect setting (built item later) state ≡ after setting item later state
-effect-is setting item later state =
-    let cells = footprint (built item later) in
-    let own = (shown cells (view setting.cells state) item.cell).own in
-    let came = done setting.rules.speed item later own in
-    write-buildings setting.cells cells item.cell came.own came.queue state (cell-itself item.cell)
-    ∙ ap (λ x. with_buildings item.cell (done setting.rules.speed item later x).own (done setting.rules.speed item later x).queue state) (shown-home setting item later state)
+-- what an event is shown
+abbrev pub seen_of : Setting → Event → State → CellId → View
+seen_of setting event state = shown (footprint event) (view setting.cells state)
+
+-- the state after an event
+abbrev pub after : Setting → QueueClass → Item → List Item → State → State
+after setting class item later state =
+    let event = item_due class item later in
+    let seen = seen_of setting event state in
+    with_queue (owns_after (footprint event) (came_own setting.rules event seen) state) item.cell class (came_queue setting.rules event seen) state
+
+pub effect-is : (setting : Setting) (class : QueueClass) (item : Item) (later : List Item) (state : State)
+    → effect setting (item_due class item later) state ≡ after setting class item later state
+effect-is setting class item later state =
+    let event = item_due class item later in
+    let seen = seen_of setting event state in
+    let own = came_own setting.rules event seen in
+    let queue = came_queue setting.rules event seen in
+    ap (λ change. write (footprint event) change state) (change-is setting.rules class item later seen)
+    ∙ write-queue (footprint event) own item.cell class queue state
+
+-- an event stands by its queue alone
+abbrev pub StandsBy : State → QueueClass → Item → List Item → Type 0
+StandsBy state class item later = queue_in state.items item.cell class ≡ item ∷ later
+
+pub has-home : (class : QueueClass) (item : Item) (later : List Item) → footprint (item_due class item later) item.cell ≡ true
+has-home class item later = rw (cell-itself item.cell) refl
+
+shown-home : (setting : Setting) (class : QueueClass) (item : Item) (later : List Item) (state : State)
+    → owns (seen_of setting (item_due class item later) state) item.cell ≡ state.own item.cell
+shown-home setting class item later state = shown-own setting.cells (footprint (item_due class item later)) state item.cell (has-home class item later)
+
+-- its queue
+pub event-ends : (setting : Setting) (state : State) (class : QueueClass) (item : Item) (later : List Item) → KeepsRules setting state → StandsBy state class item later
+    → Ends class item later (came_queue setting.rules (item_due class item later) (seen_of setting (item_due class item later) state))
+event-ends setting state Buildings item later fine stands = (building-ends setting.rules.speed item later (owns (seen_of setting (item_due Buildings item later) state) item.cell)).0
+event-ends setting state Researches item later fine stands =
+    let own = owns (seen_of setting (item_due Researches item later) state) in
+    (research-ends setting.rules.speed item later own (own item.cell) refl).0
+event-ends setting state Yard item later fine stands =
+    unit-ends setting.rules.speed item later (owns (seen_of setting (item_due Yard item later) state) item.cell) (fine.paced item.cell item later stands)
+
+-- a level that is done leaves what cells have of their own alike
+level-alike : (setting : Setting) (state : State) (class : QueueClass) (item : Item) (later : List Item) → (class ≡ Yard → ⊥)
+    → (x : CellId) → IsAlike (owns (seen_of setting (item_due class item later) state) x) (came_own setting.rules (item_due class item later) (seen_of setting (item_due class item later) state) x)
+level-alike setting state Buildings item later level x =
+    let own = owns (seen_of setting (item_due Buildings item later) state) in
+    put-alike item.cell (done setting.rules.speed item later (own item.cell)).own own own (building-ends setting.rules.speed item later (own item.cell)).1 (λ y. alike-itself (own y)) x
+level-alike setting state Researches item later level x =
+    let own = owns (seen_of setting (item_due Researches item later) state) in
+    (research-ends setting.rules.speed item later own (own item.cell) refl).1 x
+level-alike setting state Yard item later level x = absurd (level refl)
+
+put-stays : (cell : CellId) (new : Own) (own : CellId → Own) → Stays (own cell) new → (x : CellId) → Stays (own x) (put_own cell new own x)
+put-stays cell new own here x =
+    elim (same_cell cell x) as (λ b. same_cell cell x ≡ b → Stays (own x) (cond b new (own x))) [
+      | true ↦ λ same. subst (λ y. Stays (own y) new) (cell-is cell x same) here
+      | false ↦ λ apart. stays-itself (own x)
+    ] refl
+
+-- and a unit that is done lets them stay
+came-stays : (setting : Setting) (state : State) (class : QueueClass) (item : Item) (later : List Item)
+    → (x : CellId) → Stays (owns (seen_of setting (item_due class item later) state) x) (came_own setting.rules (item_due class item later) (seen_of setting (item_due class item later) state) x)
+came-stays setting state Buildings item later x = alike-stays _ _ (level-alike setting state Buildings item later (λ yard. absurd cc) x)
+came-stays setting state Researches item later x = alike-stays _ _ (level-alike setting state Researches item later (λ yard. absurd cc) x)
+came-stays setting state Yard item later x =
+    let own = owns (seen_of setting (item_due Yard item later) state) in
+    put-stays item.cell (unit_done setting.rules.speed item later (own item.cell)).own own (unit-stays setting.rules.speed item later (own item.cell)) x
+
+-- every cell stays
+pub event-stays : (setting : Setting) (state : State) (class : QueueClass) (item : Item) (later : List Item) → AllStay state.own (after setting class item later state).own
+event-stays setting state class item later x =
+    let event = item_due class item later in
+    let own = came_own setting.rules event (seen_of setting event state) in
+    elim (test (footprint event x)) [
+      | inl has ↦
+          subst (λ new. Stays (state.own x) new) (sym (ap (λ b. cond b (own x) (state.own x)) has))
+          (subst (λ old. Stays old (own x)) (shown-own setting.cells (footprint event) state x has) (came-stays setting state class item later x))
+      | inr out ↦ subst (λ new. Stays (state.own x) new) (sym (ap (λ b. cond b (own x) (state.own x)) out)) (stays-itself (state.own x))
+    ]
 
 -- the new queue is a queue of the same cell
-pub still-there : (setting : Setting) (state : State) (item : Item) (later : List Item) → Owes (view setting.cells state item.cell) (built item later)
-    → (queue : List Item) → Follows later queue → (x : Item) → IsIn x queue → is_building_at item.cell x ≡ true
-still-there setting state item later stands queue follows x has =
-    let found = follows-in later queue follows x has in
-    let old = queued setting.cells state item later stands found.0 (inr found.1) in
-    (λ i. same_cell item.cell (found.2.place i) && same_class Buildings (found.2.class i)) ∙ old.there
+pub still-there : (setting : Setting) (state : State) (class : QueueClass) (item : Item) (later : List Item) → KeepsRules setting state → StandsBy state class item later
+    → (x : Item) → IsIn x (came_queue setting.rules (item_due class item later) (seen_of setting (item_due class item later) state)) → stands_in item.cell class x ≡ true
+still-there setting state class item later fine stands x has =
+    let found = follows-in (item ∷ later) _ (event-ends setting state class item later fine stands).follows x has in
+    let old = queued state class item.cell item later stands found.0 found.1 in
+    stands-there item.cell class x (found.2.cell ∙ old.place) (found.2.class ∙ old.class_is)
 
-pub event-within : (setting : Setting) (state : State) (event : Event) → Owes (view setting.cells state (home event)) event
-    → IsWithin (footprint event) (event_change setting.rules event (shown (footprint event) (view setting.cells state))) state
-event-within setting state (built item later) stands =
-    let cells = footprint (built item later) in
-    let own = (shown cells (view setting.cells state) item.cell).own in
-    let builds = builds setting.rules.speed item later own in
-    let kept = builds.holding ∙ ap holding (shown-home setting item later state) in
-    let came = done setting.rules.speed item later own in
-    within-buildings setting.cells cells item.cell came.own came.queue state (cell-itself item.cell) kept
-    (still-there setting state item later stands came.queue builds.follows)
+-- and it is what its cell shows
+pub queue-after : (setting : Setting) (state : State) (class : QueueClass) (item : Item) (later : List Item) → KeepsRules setting state → StandsBy state class item later
+    → queue_in (after setting class item later state).items item.cell class ≡ came_queue setting.rules (item_due class item later) (seen_of setting (item_due class item later) state)
+queue-after setting state class item later fine stands =
+    let event = item_due class item later in
+    queue-new (owns_after (footprint event) (came_own setting.rules event (seen_of setting event state)) state) item.cell class
+    (came_queue setting.rules event (seen_of setting event state)) state (still-there setting state class item later fine stands)
+
+-- the other queues stay
+pub other-queue : (setting : Setting) (state : State) (class : QueueClass) (item : Item) (later : List Item) (cell : CellId) (kind : QueueClass) → KeepsRules setting state → StandsBy state class item later
+    → (same_cell item.cell cell && same_class class kind) ≡ false → queue_in (after setting class item later state).items cell kind ≡ queue_in state.items cell kind
+other-queue setting state class item later cell kind fine stands apart =
+    let event = item_due class item later in
+    queue-other (owns_after (footprint event) (came_own setting.rules event (seen_of setting event state)) state) item.cell cell class kind
+    (came_queue setting.rules event (seen_of setting event state)) state apart (still-there setting state class item later fine stands)
+
+and-no : (a b : Bool) → b ≡ false → a && b ≡ false
+and-no true b is = is
+and-no false b is = refl
+
+-- owner's accounts count the same
+level-counted : (setting : Setting) (state : State) (class : QueueClass) (item : Item) (later : List Item) → KeepsRules setting state → StandsBy state class item later → (class ≡ Yard → ⊥) → same_class class Yard ≡ false
+    → (x : CellId) → footprint (item_due class item later) x ≡ true → holding_at (after setting class item later state) x ≡ holding_at state x
+level-counted setting state class item later fine stands level apart x has =
+    let event = item_due class item later in
+    let own = came_own setting.rules event (seen_of setting event state) in
+    let alike = subst (λ old. IsAlike old (own x)) (shown-own setting.cells (footprint event) state x has) (level-alike setting state class item later level x) in
+    let here : (after setting class item later state).own x ≡ own x = ap (λ b. cond b (own x) (state.own x)) has in
+    let queue = other-queue setting state class item later x Yard fine stands (and-no (same_cell item.cell x) (same_class class Yard) apart) in
+    (λ i. holding (here i) (queue i)) ∙ alike-holding (state.own x) (own x) (queue_in state.items x Yard) alike
+
+or-no : (a b : Bool) → a || b ≡ true → b ≡ false → a ≡ true
+or-no true b is no_b = refl
+or-no false b is no_b = absurd (never b is no_b)
+
+batch-is : (class : QueueClass) (item : Item) → class ≡ Yard → IsBatch class item → IsBatch Yard item
+batch-is class item is batch = subst (λ c. IsBatch c item) is batch
+
+unit-counts : (setting : Setting) (state : State) (item : Item) (later : List Item) → KeepsRules setting state → StandsBy state Yard item later
+    → holding_at (after setting Yard item later state) item.cell ≡ holding_at state item.cell
+unit-counts setting state item later fine stands =
+    let event = item_due Yard item later in
+    let seen = seen_of setting event state in
+    let home_own = shown-home setting Yard item later state in
+    let here = queued state Yard item.cell item later stands item (inl refl) in
+    let batch = batch-is item.class item here.class_is (fine.placed item here.within).batch in
+    let put : came_own setting.rules event seen item.cell ≡ (unit_done setting.rules.speed item later (owns seen item.cell)).own =
+    ap (λ b. cond b (unit_done setting.rules.speed item later (owns seen item.cell)).own (owns seen item.cell)) (cell-itself item.cell) in
+    let own : (after setting Yard item later state).own item.cell ≡ (unit_done setting.rules.speed item later (owns seen item.cell)).own =
+    ap (λ b. cond b (came_own setting.rules event seen item.cell) (state.own item.cell)) (has-home Yard item later) ∙ put in
+    let queue = queue-after setting state Yard item later fine stands in
+    let counted = unit-counted setting.rules.speed item later (owns seen item.cell) batch.0 batch.1 (λ planet is. fine.kinds item.cell planet (sym home_own ∙ is)) in
+    (λ i. holding (own i) (queue i)) ∙ counted ∙ (λ i. holding (home_own i) (sym stands i))
+
+pub event-counted : (setting : Setting) (state : State) (class : QueueClass) (item : Item) (later : List Item) → KeepsRules setting state → StandsBy state class item later
+    → (x : CellId) → footprint (item_due class item later) x ≡ true → holding_at (after setting class item later state) x ≡ holding_at state x
+event-counted setting state Buildings item later fine stands x has = level-counted setting state Buildings item later fine stands (λ yard. absurd cc) refl x has
+event-counted setting state Researches item later fine stands x has = level-counted setting state Researches item later fine stands (λ yard. absurd cc) refl x has
+event-counted setting state Yard item later fine stands x has =
+    let home = cell-is item.cell x (or-no (same_cell item.cell x) false has refl) in
+    subst (λ y. holding_at (after setting Yard item later state) y ≡ holding_at state y) home (unit-counts setting state item later fine stands)
+
+pub event-within : (setting : Setting) (state : State) (class : QueueClass) (item : Item) (later : List Item) → KeepsRules setting state → StandsBy state class item later
+    → IsWithin (footprint (item_due class item later)) (event_change setting.rules (item_due class item later) (seen_of setting (item_due class item later) state)) state
+event-within setting state class item later fine stands =
+    let event = item_due class item later in
+    let seen = seen_of setting event state in
+    let own = came_own setting.rules event seen in
+    subst (λ change. IsWithin (footprint event) change state) (sym (change-is setting.rules class item later seen))
+    (within-queue (footprint event) own item.cell class (came_queue setting.rules event seen) state (has-home class item later)
+    (record {
+      owners = λ x has. stays-owner (owns seen x) (own x) (came-stays setting state class item later x) ∙ ap owner_of (shown-own setting.cells (footprint event) state x has);
+      counted = λ x has. inl (event-counted setting state class item later fine stands x has);
+    })
+    (still-there setting state class item later fine stands))
 
 -- a cell that the event doesn't need is seen as before
-pub event-outside : (setting : Setting) (state : State) (event : Event) (x : CellId) → Owes (view setting.cells state (home event)) event → footprint event x ≡ false
+pub event-outside : (setting : Setting) (state : State) (event : Event) (x : CellId) → KeepsRules setting state → Owes (view setting.cells state (home event)) event → footprint event x ≡ false
     → view setting.cells (effect setting event state) x ≡ view setting.cells state x
-event-outside setting state event x stands out =
-    let change = event_change setting.rules event (shown (footprint event) (view setting.cells state)) in
-    outside setting.cells (footprint event) change state x (event-within setting state event stands) out
+event-outside setting state (item_due class item later) x fine stands out =
+    let event = item_due class item later in
+    outside setting.cells (footprint event) (event_change setting.rules event (seen_of setting event state)) state x (event-within setting state class item later fine stands) out
 
 -- and of a cell that it needs, what is seen depends on what was seen of those cells
-pub event-inside : (setting : Setting) (state : State) (event : Event) (x : CellId) → Owes (view setting.cells state (home event)) event → footprint event x ≡ true
-    → view setting.cells (effect setting event state) x
-    ≡ seen_after (event_change setting.rules event (shown (footprint event) (view setting.cells state))) x (view setting.cells state x)
-event-inside setting state event x stands has =
-    let change = event_change setting.rules event (shown (footprint event) (view setting.cells state)) in
-    inside setting.cells (footprint event) change state x (event-within setting state event stands) has
-
-pub event-depends : (setting : Setting) (one other : State) (event : Event) → Owes (view setting.cells one (home event)) event
+pub event-depends : (setting : Setting) (one other : State) (event : Event) → KeepsRules setting one → KeepsRules setting other → Owes (view setting.cells one (home event)) event
     → Owes (view setting.cells other (home event)) event
     → ((x : CellId) → footprint event x ≡ true → view setting.cells one x ≡ view setting.cells other x)
     → (x : CellId) → footprint event x ≡ true → view setting.cells (effect setting event one) x ≡ view setting.cells (effect setting event other) x
-event-depends setting one other event stands stands' agree x has =
+event-depends setting one other (item_due class item later) fine fine' stands stands' agree x has =
+    let event = item_due class item later in
     let cells = footprint event in
-    let same = shown-alike cells (view setting.cells one) (view setting.cells other) agree in
-    event-inside setting one event x stands has
-    ∙ (λ i. seen_after (event_change setting.rules event (same i)) x (agree x has i))
-    ∙ sym (event-inside setting other event x stands' has)
-
--- no planet changes its owner or how many units it has
-pub event-holding : (setting : Setting) (state : State) (event : Event) (x : CellId) → Owes (view setting.cells state (home event)) event
-    → holding ((effect setting event state).own x) ≡ holding (state.own x)
-event-holding setting state event x stands =
-    let change = event_change setting.rules event (shown (footprint event) (view setting.cells state)) in
-    held (footprint event) change state (event-within setting state event stands) x
-
-after-there : (setting : Setting) (item : Item) (later : List Item) (state : State) (x : CellId) → is_there ((after setting item later state).own x) ≡ is_there (state.own x)
-after-there setting item later state x =
-    let came = came setting item later state in
-    let tested = λ (b : Bool). is_there (cond b came.own (state.own x)) in
-    elim (test (same_cell item.cell x)) [
-      | inl same ↦ ap tested same ∙ (builds setting.rules.speed item later (state.own item.cell)).there ∙ ap (λ y. is_there (state.own y)) (cell-is item.cell x same)
-      | inr other ↦ ap tested other
-    ]
-
--- and no cell comes or goes
-pub event-there : (setting : Setting) (state : State) (event : Event) (x : CellId) → is_there ((effect setting event state).own x) ≡ is_there (state.own x)
-event-there setting state (built item later) x = ap (λ new. is_there (new.own x)) (effect-is setting item later state) ∙ after-there setting item later state x
-
-pub event-brings : (setting : Setting) (state : State) (event : Event) (t : ℕ) (x y : CellId) → Owes (view setting.cells state (home event)) event
-    → brings (view setting.cells (effect setting event state) x) t y ≡ brings (view setting.cells state x) t y
-event-brings setting state event t x y stands = brings-same ((effect setting event state).own x) (state.own x) (event-holding setting state event x stands) y
-
--- the new queue is what its cell shows
-after-queue : (setting : Setting) (state : State) (item : Item) (later : List Item) → Owes (view setting.cells state item.cell) (built item later)
-    → filter (is_building_at item.cell) (effect setting (built item later) state).items ≡ (came setting item later state).queue
-after-queue setting state item later stands =
-    let came = came setting item later state in
-    let follows = (builds setting.rules.speed item later (state.own item.cell)).follows in
-    ap (λ new. filter (is_building_at item.cell) new.items) (effect-is setting item later state)
-    ∙ buildings-after item.cell came.own came.queue state (still-there setting state item later stands came.queue follows)
-
--- what a cell owes after an event that it owed is later
-pub event-later : (setting : Setting) (state : State) (event other : Event) → Owes (view setting.cells state (home event)) event → home event ≡ home other
-    → Owes (view setting.cells (effect setting event state) (home other)) other → second_of event < second_of other
-event-later setting state (built item later) (built first rest) stands same owes =
-    let new = (effect setting (built item later) state).items in
-    let queue : (came setting item later state).queue ≡ first ∷ rest =
-    sym (after-queue setting state item later stands) ∙ ap (λ cell. filter (is_building_at cell) new) same ∙ sym (buildings-at new first.cell) ∙ owes in
-    (builds setting.rules.speed item later (state.own item.cell)).next first rest queue
-
--- one item at least is gone
-pub event-falls : (setting : Setting) (state : State) (event : Event) → Owes (view setting.cells state (home event)) event
-    → length (effect setting event state).items < length state.items
-event-falls setting state (built item later) stands =
-    let came = came setting item later state in
-    let others = filter (λ (x : Item). not (is_building_at item.cell x)) state.items in
-    let all = length-filter_both (is_building_at item.cell) (λ x. not (is_building_at item.cell x)) (λ x. refl) state.items in
-    let gone : length (filter (is_building_at item.cell) state.items) ≡ length (item ∷ later) = ap length (standing setting.cells state item later stands) in
-    let less : length came.queue ≤ length later = follows-length later came.queue (builds setting.rules.speed item later (state.own item.cell)).follows in
-    let both : length (others ++ came.queue) ≡ length others + length came.queue = length-append others came.queue in
-    let new : length (effect setting (built item later) state).items ≡ length (others ++ came.queue) = ap (λ new. length new.items) (effect-is setting item later state) in
-    omega arith
-
--- an item of the new state is one of the old one, or was ordered by one of them
-after-in : (setting : Setting) (state : State) (item : Item) (later : List Item) → Owes (view setting.cells state item.cell) (built item later)
-    → (x : Item) → IsIn x (after setting item later state).items → (old : Item) × IsIn old state.items × IsOrderOf old x
-after-in setting state item later stands x has =
-    let came = came setting item later state in
-    let kept = λ (y : Item). not (is_building_at item.cell y) in
-    elim (in-append x (filter kept state.items) came.queue has) [
-      | inl other ↦ (x, (from-filter kept x state.items other).0, record { number = refl; place = refl; class = refl; kind = refl })
-      | inr new ↦
-          let found = follows-in later came.queue (builds setting.rules.speed item later (state.own item.cell)).follows x new in
-          (found.0, (queued setting.cells state item later stands found.0 (inr found.1)).within, found.2)
-    ]
-
--- an item of another queue is of another class or has another number than the items of the new queue
-after-apart : (setting : Setting) (state : State) (item : Item) (later queue : List Item) → Owes (view setting.cells state item.cell) (built item later)
-    → AreDistinct state.items → Follows later queue → (a b : Item) → IsIn a state.items → is_building_at item.cell a ≡ false → IsIn b queue → same_order a b ≡ false
-after-apart setting state item later queue stands distinct follows a b has_a other has_b =
-    let found = follows-in later queue follows b has_b in
-    let old = queued setting.cells state item later stands found.0 (inr found.1) in
-    fails (same_order a b) (λ same.
-    let one = distinct-one state.items a found.0 distinct has_a old.within (sym (same-order found.0 b found.2 a) ∙ same) in
-    never (is_building_at item.cell a) (ap (is_building_at item.cell) one ∙ old.there) other)
-
-after-distinct : (setting : Setting) (state : State) (item : Item) (later : List Item) → Owes (view setting.cells state item.cell) (built item later)
-    → AreDistinct state.items → AreDistinct (after setting item later state).items
-after-distinct setting state item later stands distinct =
-    let queue = (came setting item later state).queue in
-    let kept = λ (y : Item). not (is_building_at item.cell y) in
-    let follows = (builds setting.rules.speed item later (state.own item.cell)).follows in
-    let waiting = subst AreDistinct (standing setting.cells state item later stands) (distinct-filter (is_building_at item.cell) state.items distinct) in
-    let apart : (a b : Item) → IsIn a (filter kept state.items) → IsIn b queue → same_order a b ≡ false = λ a b has_a has_b.
-    let first = from-filter kept a state.items has_a in
-    after-apart setting state item later queue stands distinct follows a b first.0 (not-true (is_building_at item.cell a) first.1) has_b in
-    distinct-append (filter kept state.items) queue (distinct-filter kept state.items distinct) (follows-distinct later queue follows waiting.1) apart
-
-after-keeps : (setting : Setting) (state : State) (item : Item) (later : List Item) → Owes (view setting.cells state item.cell) (built item later) → KeepsRules setting state
-    → KeepsRules setting (after setting item later state)
-after-keeps setting state item later stands fine = record {
-  listed = λ x there. fine.listed x (sym (after-there setting item later state x) ∙ there);
-  owned = λ x. owned-kept setting.cells (state.own x) ((after setting item later state).own x) (
-      ap (λ new. holding (new.own x)) (sym (effect-is setting item later state)) ∙ event-holding setting state (built item later) x stands) (fine.owned x);
-  queued = λ x has.
-      let found = after-in setting state item later stands x has in
-      subst (Contains setting.cells) (sym found.2.place) (fine.queued found.0 found.1);
-  drawn = λ x has.
-      let found = after-in setting state item later stands x has in
-      let same = found.2.number in
-      let low = fine.drawn found.0 found.1 in
-      omega arith;
-  distinct = after-distinct setting state item later stands fine.distinct;
-}
-
--- the rules are kept
-pub event-keeps : (setting : Setting) (state : State) (event : Event) → Owes (view setting.cells state (home event)) event → KeepsRules setting state
-    → KeepsRules setting (effect setting event state)
-event-keeps setting state (built item later) stands fine =
-    subst (KeepsRules setting) (sym (effect-is setting item later state)) (after-keeps setting state item later stands fine)
+    let change = event_change setting.rules event (seen_of setting event one) in
+    let same : event_change setting.rules event (seen_of setting event other) ≡ change =
+    ap (event_change setting.rules event) (sym (shown-alike cells (view setting.cells one) (view setting.cells other) agree)) in
+    let second = subst (λ c. IsWithin cells c other) same (event-within setting other class item later fine' stands') in
+    inside setting.cells cells change one other (record { first = event-within setting one class item later fine stands; second = second; agree = agree }) x has
+    ∙ ap (λ c. view setting.cells (write cells c other) x) (sym same)

@@ -1,50 +1,44 @@
 -- What gains leave of a cell.
-use Rattle.std.proofs.Common.{◌≡◌, ℕ, zero, suc, ◌+◌, true, arith, refl, ap, ◌∙◌, sym}
+use Rattle.std.proofs.Common.{◌≡◌, ℕ, zero, suc, ◌+◌, true, ◌||◌, arith, refl, ap, ◌∙◌, sym}
 use Rattle.std.proofs.Math.Path.{fun_ext}
 use Rattle.base_ids.specs.declared.cell_id.CellId.{CellId}
 use Rattle.rates.specs.Times.{times}
 use Rattle.request_text.specs.declared.entry.Entry.{Entry}
-use Rattle.tick_model.specs.Events.{Event, built, Owes}
-use Rattle.tick_model.specs.Game.{brings}
+use Rattle.tick_model.specs.Events.{Event, item_due, Owes}
+use Rattle.tick_model.specs.Game.{brings, research_brings}
 use Rattle.tick_model.specs.Production.{advance, cell_second, gains, own_second, planet_second}
-use Rattle.tick_model.specs.Requests.{asked, is_there}
+use Rattle.tick_model.specs.Requests.{asked}
 use Rattle.tick_model.specs.Rules.{KeepsRules}
 use Rattle.tick_model.specs.declared.rules.Rules.{Rules}
-use Rattle.tick_model.specs.Universe.{Own, of_nothing, of_account, of_planet, Buildings, Setting, State}
-use Rattle.tick_model.specs.Views.{View, holding, planets_of, queue, units_of, view}
+use Rattle.tick_model.specs.Universe.{Own, of_nothing, of_account, of_planet, Researches, Yard, Setting, State}
+use Rattle.tick_model.specs.Views.{View, planets_of, queue_in, units_of, view}
 use Rattle.tick_model.proofs.Asked.{asked-same}
-use Rattle.tick_model.proofs.Owns.{brings-same, owned-kept}
+use Rattle.tick_model.proofs.Staying.{keeps-owns}
+use Rattle.tick_model.proofs.Owns.{IsAlike, alike-holding, alike-itself, alike-stays, alike-then, brings-same, stays-owner}
 
-second-there : (rules : Rules) (own : Own) → is_there (own_second rules own) ≡ is_there own
-second-there rules of_nothing = refl
-second-there rules (of_account account) = refl
-second-there rules (of_planet planet) = refl
-
-second-holding : (rules : Rules) (own : Own) → holding (own_second rules own) ≡ holding own
+second-alike : (rules : Rules) (own : Own) → IsAlike own (own_second rules own)
 unfolding planet_second
-second-holding rules of_nothing = refl
-second-holding rules (of_account account) = refl
-second-holding rules (of_planet planet) = refl
+second-alike rules of_nothing = tt
+second-alike rules (of_account account) = tt
+second-alike rules (of_planet planet) = (refl, refl)
 
 -- what gains keep
 pub record Gained (before after : View) : Type 0 where
-  pub there : is_there after.own ≡ is_there before.own
-  pub holding : holding after.own ≡ holding before.own
-  pub items : after.items ≡ before.items
+  pub alike : IsAlike before.own after.own
+  pub queue : after.queue ≡ before.queue
   pub fleets : after.fleets ≡ before.fleets
   pub planets : after.planets ≡ before.planets
   pub units : after.units ≡ before.units
 
 pub gained : (rules : Rules) (n : ℕ) (v : View) → Gained v (gains rules n v)
 unfolding times
-gained rules zero v = record { there = refl; holding = refl; items = refl; fleets = refl; planets = refl; units = refl }
+gained rules zero v = record { alike = alike-itself v.own; queue = refl; fleets = refl; planets = refl; units = refl }
 gained rules (suc n) v =
     let before = gained rules n v in
     let own = (gains rules n v).own in
     record {
-      there = second-there rules own ∙ before.there;
-      holding = second-holding rules own ∙ before.holding;
-      items = before.items;
+      alike = alike-then v.own own (own_second rules own) before.alike (second-alike rules own);
+      queue = before.queue;
       fleets = before.fleets;
       planets = before.planets;
       units = before.units;
@@ -63,13 +57,17 @@ more-gained rules m (suc n) v =
 
 -- a cell owes after gains just what it owed before
 pub gains-owe : (rules : Rules) (n : ℕ) (v : View) (e : Event) → Owes v e → Owes (gains rules n v) e
-gains-owe rules n v (built item later) owes = ap (queue Buildings) (gained rules n v).items ∙ owes
+gains-owe rules n v (item_due class item later) owes = ap (λ queue. queue class) (gained rules n v).queue ∙ owes
 
 pub gains-owed : (rules : Rules) (n : ℕ) (v : View) (e : Event) → Owes (gains rules n v) e → Owes v e
-gains-owed rules n v (built item later) owes = ap (queue Buildings) (sym (gained rules n v).items) ∙ owes
+gains-owed rules n v (item_due class item later) owes = ap (λ queue. queue class) (sym (gained rules n v).queue) ∙ owes
 
 pub gains-bring : (rules : Rules) (n t : ℕ) (v : View) (y : CellId) → brings (gains rules n v) t y ≡ true → brings v t y ≡ true
-gains-bring rules n t v y brought = sym (brings-same (gains rules n v).own v.own (gained rules n v).holding y) ∙ brought
+gains-bring rules n t v y brought =
+    let after = gained rules n v in
+    let own = brings-same (gains rules n v).own v.own (stays-owner v.own (gains rules n v).own (alike-stays v.own (gains rules n v).own after.alike)) y in
+    let research = ap (λ queue. research_brings t (queue Researches) y) after.queue in
+    sym (λ i. own i || research i) ∙ brought
 
 -- every cell gains for its own seconds
 pub view-advanced : (setting : Setting) (k : CellId → ℕ) (state : State) (x : CellId)
@@ -77,12 +75,12 @@ pub view-advanced : (setting : Setting) (k : CellId → ℕ) (state : State) (x 
 view-advanced setting k state x =
     let before = view setting.cells state in
     let after = gained setting.rules (k x) (before x) in
-    let holdings = fun_ext (λ y. (gained setting.rules (k y) (before y)).holding) in
+    let holdings = fun_ext (λ y. alike-holding (state.own y) ((advance setting k state).own y) (queue_in state.items y Yard) (gained setting.rules (k y) (before y)).alike) in
     let planets = ap (λ held. planets_of setting.cells held x) holdings ∙ sym after.planets in
     let units = ap (λ held. units_of setting.cells held x) holdings ∙ sym after.units in
     λ i. record {
       own = (gains setting.rules (k x) (before x)).own;
-      items = sym after.items i;
+      queue = sym after.queue i;
       fleets = sym after.fleets i;
       planets = planets i;
       units = units i;
@@ -90,14 +88,7 @@ view-advanced setting k state x =
 
 pub advance-keeps : (setting : Setting) (k : CellId → ℕ) (state : State) → KeepsRules setting state → KeepsRules setting (advance setting k state)
 advance-keeps setting k state fine =
-    let after = λ (x : CellId). gained setting.rules (k x) (view setting.cells state x) in
-    record {
-      listed = λ x there. fine.listed x (sym (after x).there ∙ there);
-      owned = λ x. owned-kept setting.cells (state.own x) ((advance setting k state).own x) (after x).holding (fine.owned x);
-      queued = fine.queued;
-      drawn = fine.drawn;
-      distinct = fine.distinct;
-    }
+    keeps-owns setting (advance setting k state).own state (λ x. alike-stays (state.own x) ((advance setting k state).own x) (gained setting.rules (k x) (view setting.cells state x)).alike) fine
 
 pub advance-asked : (setting : Setting) (k : CellId → ℕ) (state : State) (entry : Entry) (y : CellId)
     → asked setting.cells (view setting.cells (advance setting k state)) entry.player entry.req y ≡ asked setting.cells (view setting.cells state) entry.player entry.req y

@@ -2,7 +2,8 @@
 use Rattle.std.proofs.Common.{◌≡◌, ℕ, ◌⊎◌, inl, inr, Bool, true, false, not, cond, eqb, ◌&&◌, ◌||◌, List, [], ◌∷◌, ◌++◌, Option, None, Some, filter, arith, refl, ap, ◌∙◌, sym, subst}
 use Rattle.std.specs.List.{list_any, filter_map, cons_option}
 use Rattle.std.proofs.lemmas.Bool.Decides.{nat_tests}
-use Rattle.base_ids.specs.Cells.{same_cell}
+use Rattle.base_ids.specs.Cells.{same_cell, same_player}
+use Rattle.base_ids.specs.declared.player.Player.{Player}
 use Rattle.base_ids.specs.declared.cell_id.CellId.{CellId}
 use Rattle.base_ids.specs.declared.cell_id.CellId.TheVariants.{Account, Planet}
 use Rattle.base_ids.proofs.Names.{coord_is, player_is}
@@ -48,6 +49,10 @@ cell-is (Planet a) (Planet b) is =
     let first = and-is (eqb a.g b.g && eqb a.s b.s) (eqb a.p b.p) is in
     let second = and-is (eqb a.g b.g) (eqb a.s b.s) first.0 in
     ap Planet (coord_is a b (number-is a.g b.g second.0) (number-is a.s b.s second.1) (number-is a.p b.p first.1))
+
+-- players that are the same are one
+pub player-from : (a b : Player) → same_player a b ≡ true → a ≡ b
+player-from a b is = player_is a b (number-is a.k b.k is)
 
 pub cell-from : (a b : CellId) → a ≡ b → same_cell a b ≡ true
 cell-from a b same = subst (λ x. same_cell a x ≡ true) same (cell-itself a)
@@ -231,6 +236,27 @@ none-any p x (first ∷ xs) none (inr later) = none-any p x xs (neither (p first
 pub any-none : {A : Type 0} (p : A → Bool) (xs : List A) → ((x : A) → IsIn x xs → p x ≡ false) → list_any p xs ≡ false
 any-none p [] none = refl
 any-none p (x ∷ xs) none = rw (none x (inl refl)) (any-none p xs (λ y is. none y (inr is)))
+
+either-passes : (a b : Bool) → b ≡ true → a || b ≡ true
+either-passes true b is = refl
+either-passes false b is = is
+
+-- what passes among some
+pub any-in : {A : Type 0} (p : A → Bool) (xs : List A) → list_any p xs ≡ true → (x : A) × IsIn x xs × (p x ≡ true)
+any-in p [] is = never false is refl
+any-in p (x ∷ xs) is =
+    elim (test (p x)) [
+      | inl passes ↦ (x, inl refl, passes)
+      | inr out ↦
+          (let rest : list_any p xs ≡ true = sym (ap (λ b. b || list_any p xs) out) ∙ is in
+          let found = any-in p xs rest in
+          (found.0, inr found.1, found.2))
+    ]
+
+pub in-any : {A : Type 0} (p : A → Bool) (x : A) (xs : List A) → IsIn x xs → p x ≡ true → list_any p xs ≡ true
+in-any p x [] is passes = absurd is
+in-any p x (first ∷ xs) (inl same) passes = ap (λ b. b || list_any p xs) (ap p (sym same) ∙ passes)
+in-any p x (first ∷ xs) (inr later) passes = either-passes (p first) (list_any p xs) (in-any p x xs later passes)
 
 number-turned : (m n : ℕ) → eqb m n ≡ eqb n m
 number-turned m n = grind (arith, nat_tests)

@@ -1,79 +1,96 @@
--- The building queue of a cell among all items, and the event that a cell owes.
-use Rattle.std.proofs.Common.{◌≡◌, inl, true, false, not, eqb, ◌&&◌, List, ◌∷◌, ◌++◌, filter, refl, ap, ◌∙◌, sym, subst}
+-- The queues of cells among all items: what stands in them, and what does once one of them was written anew.
+use Rattle.std.proofs.Common.{◌≡◌, inl, true, false, not, eqb, ◌&&◌, List, ◌∷◌, ◌++◌, filter, arith, refl, ap, ◌∙◌, sym, subst}
+use Rattle.std.proofs.lemmas.List.{append-nil}
 use Rattle.std.proofs.lemmas.List.Elements.{filter-append}
 use Rattle.base_ids.specs.Cells.{same_cell}
 use Rattle.base_ids.specs.Order.{key_before}
 use Rattle.base_ids.specs.declared.cell_id.CellId.{CellId}
 use Rattle.base_ids.proofs.Ordering.{events_ordered}
-use Rattle.tick_model.specs.Events.{Event, built, Owes, home, key_of}
+use Rattle.laziness.proofs.Bringing.{never}
+use Rattle.tick_model.specs.Events.{Event, item_due, Owes, home, key_of, step_of}
 use Rattle.tick_model.specs.Rules.{IsIn, KeepsRules}
-use Rattle.tick_model.specs.Universe.{Buildings, Item, Own, Setting, State, same_class}
-use Rattle.tick_model.specs.Views.{queue, stands_in, view}
-use Rattle.tick_model.proofs.Lists.{and-from, and-is, cell-is, cell-turned, class-from, class-is, class-turned, distinct-one, filter-all, filter-alike, filter-both, filter-none, from-filter, not-true, same_number}
-use Rattle.tick_model.proofs.Writes.{is_building_at, with_buildings}
+use Rattle.tick_model.specs.Universe.{Own, QueueClass, Buildings, Researches, Yard, same_class, Item, Setting, State}
+use Rattle.tick_model.specs.Views.{queue_in, stands_in, view}
+use Rattle.tick_model.proofs.Lists.{and-from, and-is, cell-from, cell-is, class-from, class-is, distinct-one, fails, filter-all, filter-idle, filter-none, from-filter, not-true, same_number}
+use Rattle.tick_model.proofs.Writes.{with_queue}
 
--- the building queue of a cell, by one test
-pub buildings-at : (items : List Item) (cell : CellId) → queue Buildings (filter (stands_in cell) items) ≡ filter (is_building_at cell) items
-buildings-at items cell =
-    filter-both (λ item. same_class item.class Buildings) (stands_in cell) items
-    ∙ filter-alike (λ item. stands_in cell item && same_class item.class Buildings) (is_building_at cell) items (
-    λ item is i. cell-turned item.cell cell i && class-turned item.class Buildings i)
-
--- an event stands if its items are the building queue of their cell
-pub standing : (cells : List CellId) (state : State) (item : Item) (later : List Item) → Owes (view cells state item.cell) (built item later)
-    → filter (is_building_at item.cell) state.items ≡ item ∷ later
-standing cells state item later stands = sym (buildings-at state.items item.cell) ∙ stands
-
--- each item of the queue is one of all, and stands there
-pub record IsQueued (cell : CellId) (item : Item) (items : List Item) : Type 0 where
+-- an item of a queue is one of all, and stands there
+pub record IsQueued (cell : CellId) (class : QueueClass) (item : Item) (items : List Item) : Type 0 where
   pub within : IsIn item items
   pub place : item.cell ≡ cell
-  pub class : item.class ≡ Buildings
-  pub there : is_building_at cell item ≡ true
+  pub class_is : item.class ≡ class
+  pub there : stands_in cell class item ≡ true
 
-pub queued-at : (cell : CellId) (items found : List Item) → filter (is_building_at cell) items ≡ found → (item : Item) → IsIn item found → IsQueued cell item items
-queued-at cell items found is item has =
-    let both = from-filter (is_building_at cell) item items (subst (IsIn item) (sym is) has) in
-    let parts = and-is (same_cell cell item.cell) (same_class Buildings item.class) both.1 in
-    record {
-      within = both.0;
-      place = sym (cell-is cell item.cell parts.0);
-      class = sym (class-is Buildings item.class parts.1);
-      there = both.1;
-    }
+pub queued-in : (items : List Item) (cell : CellId) (class : QueueClass) (item : Item) → IsIn item (queue_in items cell class) → IsQueued cell class item items
+queued-in items cell class item is =
+    let both = from-filter (stands_in cell class) item items is in
+    let parts = and-is (same_cell cell item.cell) (same_class class item.class) both.1 in
+    record { within = both.0; place = sym (cell-is cell item.cell parts.0); class_is = sym (class-is class item.class parts.1); there = both.1 }
 
-pub queued : (cells : List CellId) (state : State) (item : Item) (later : List Item) → Owes (view cells state item.cell) (built item later)
-    → (other : Item) → IsIn other (item ∷ later) → IsQueued item.cell other state.items
-queued cells state item later stands = queued-at item.cell state.items (item ∷ later) (standing cells state item later stands)
+-- so is each of an event that a cell owes
+pub queued : (state : State) (class : QueueClass) (cell : CellId) (item : Item) (later : List Item) → queue_in state.items cell class ≡ item ∷ later
+    → (other : Item) → IsIn other (item ∷ later) → IsQueued cell class other state.items
+queued state class cell item later stands other is = queued-in state.items cell class other (subst (IsIn other) (sym stands) is)
 
 -- what a cell owes is its own
-pub owed-home : (cells : List CellId) (state : State) (cell : CellId) (item : Item) (later : List Item) → Owes (view cells state cell) (built item later) → item.cell ≡ cell
-owed-home cells state cell item later owes =
-    (queued-at cell state.items (item ∷ later) (sym (buildings-at state.items cell) ∙ owes) item (inl refl)).place
+pub owed-home : (state : State) (class : QueueClass) (cell : CellId) (item : Item) (later : List Item) → queue_in state.items cell class ≡ item ∷ later → item.cell ≡ cell
+owed-home state class cell item later stands = (queued state class cell item later stands item (inl refl)).place
 
--- after a queue is written anew its items are in it
-pub buildings-after : (cell : CellId) (own : Own) (items : List Item) (state : State) → ((item : Item) → IsIn item items → is_building_at cell item ≡ true)
-    → filter (is_building_at cell) (with_buildings cell own items state).items ≡ items
-buildings-after cell own items state there =
-    let others = filter (λ (item : Item). not (is_building_at cell item)) state.items in
-    let none = filter-none (is_building_at cell) others (
-    λ item is. not-true (is_building_at cell item) (from-filter (λ x. not (is_building_at cell x)) item state.items is).1) in
-    filter-append (is_building_at cell) others items ∙ (λ i. none i ++ filter-all (is_building_at cell) items there i)
+-- of what is in a queue each item stands in it
+pub stands-there : (cell : CellId) (class : QueueClass) (item : Item) → item.cell ≡ cell → item.class ≡ class → stands_in cell class item ≡ true
+stands-there cell class item place is = and-from (same_cell cell item.cell) (same_class class item.class) (cell-from cell item.cell (sym place)) (class-from class item.class (sym is))
+
+-- the queue that was written anew is what was written
+pub queue-new : (own : CellId → Own) (cell : CellId) (class : QueueClass) (items : List Item) (state : State) → ((item : Item) → IsIn item items → stands_in cell class item ≡ true)
+    → queue_in (with_queue own cell class items state).items cell class ≡ items
+queue-new own cell class items state there =
+    let others = filter (λ (item : Item). not (stands_in cell class item)) state.items in
+    let none = filter-none (stands_in cell class) others (
+    λ item is. not-true (stands_in cell class item) (from-filter (λ x. not (stands_in cell class x)) item state.items is).1) in
+    filter-append (stands_in cell class) others items ∙ (λ i. none i ++ filter-all (stands_in cell class) items there i)
+
+-- the other queues stay
+pub queue-other : (own : CellId → Own) (cell other : CellId) (class kind : QueueClass) (items : List Item) (state : State) → (same_cell cell other && same_class class kind) ≡ false
+    → ((item : Item) → IsIn item items → stands_in cell class item ≡ true) → queue_in (with_queue own cell class items state).items other kind ≡ queue_in state.items other kind
+queue-other own cell other class kind items state apart there =
+    let rest = filter (λ (item : Item). not (stands_in cell class item)) state.items in
+    let elsewhere : (item : Item) → stands_in other kind item ≡ true → stands_in cell class item ≡ false =
+    λ item at_other. fails (stands_in cell class item) (λ here.
+    let one = and-is (same_cell cell item.cell) (same_class class item.class) here in
+    let two = and-is (same_cell other item.cell) (same_class kind item.class) at_other in
+    let place = cell-from cell other (cell-is cell item.cell one.0 ∙ sym (cell-is other item.cell two.0)) in
+    let sort = class-from class kind (class-is class item.class one.1 ∙ sym (class-is kind item.class two.1)) in
+    never (same_cell cell other && same_class class kind) (and-from (same_cell cell other) (same_class class kind) place sort) apart) in
+    let gone = filter-none (stands_in other kind) items (λ item is. fails (stands_in other kind item) (λ at_other. never (stands_in cell class item) (there item is) (elsewhere item at_other))) in
+    let stay = filter-idle (stands_in other kind) (λ item. not (stands_in cell class item)) state.items (λ item is at_other. ap not (elsewhere item at_other)) in
+    filter-append (stands_in other kind) rest items ∙ (λ i. stay i ++ gone i) ∙ append-nil (queue_in state.items other kind)
 
 tails : (a b : Item) (as_a as_b : List Item) → a ∷ as_a ≡ b ∷ as_b → as_a ≡ as_b
 tails a b as_a as_b same = cc
 
+-- classes of one step are one
+class-by_step : (a b : QueueClass) → step_of a ≡ step_of b → a ≡ b
+class-by_step Buildings Buildings same = refl
+class-by_step Buildings Researches same = absurd (omega arith)
+class-by_step Buildings Yard same = absurd (omega arith)
+class-by_step Researches Buildings same = absurd (omega arith)
+class-by_step Researches Researches same = refl
+class-by_step Researches Yard same = absurd (omega arith)
+class-by_step Yard Buildings same = absurd (omega arith)
+class-by_step Yard Researches same = absurd (omega arith)
+class-by_step Yard Yard same = refl
+
 -- of two events that stand one acts first
 pub one-event : (setting : Setting) (state : State) (e d : Event) → KeepsRules setting state → Owes (view setting.cells state (home e)) e
     → Owes (view setting.cells state (home d)) d → key_before (key_of e) (key_of d) ≡ false → key_before (key_of d) (key_of e) ≡ false → e ≡ d
-one-event setting state (built item later) (built other more) fine stands stands' first second =
-    let key = events_ordered.total (key_of (built item later)) (key_of (built other more)) first second in
-    let here = queued setting.cells state item later stands item (inl refl) in
-    let there = queued setting.cells state other more stands' other (inl refl) in
-    let class = class-from item.class other.class (here.class ∙ sym there.class) in
+one-event setting state (item_due class item later) (item_due kind other more) fine stands stands' first second =
+    let key = events_ordered.total (key_of (item_due class item later)) (key_of (item_due kind other more)) first second in
+    let here = queued state class item.cell item later stands item (inl refl) in
+    let there = queued state kind other.cell other more stands' other (inl refl) in
+    let sort = class-by_step class kind (ap (λ k. k.step) key) in
+    let classes = class-from item.class other.class (here.class_is ∙ sort ∙ sym there.class_is) in
     let number = ap (λ k. k.number) key in
-    let order = and-from (same_class item.class other.class) (eqb item.number other.number) class (ap (λ n. eqb n other.number) number ∙ same_number other.number) in
+    let order = and-from (same_class item.class other.class) (eqb item.number other.number) classes (ap (λ n. eqb n other.number) number ∙ same_number other.number) in
     let same = distinct-one state.items item other fine.distinct here.within there.within order in
-    let queues : item ∷ later ≡ other ∷ more =
-    sym (standing setting.cells state item later stands) ∙ ap (λ x. filter (is_building_at x.cell) state.items) same ∙ standing setting.cells state other more stands' in
-    λ i. built (same i) (tails item other later more queues i)
+    let queues : item ∷ later ≡ other ∷ more = sym stands ∙ (λ i. queue_in state.items (same i).cell (sort i)) ∙ stands' in
+    λ i. item_due (sort i) (same i) (tails item other later more queues i)

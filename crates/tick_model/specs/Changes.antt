@@ -2,8 +2,8 @@
 use Rattle.std.specs.Prelude.{List, [], ◌++◌, Bool, false, not, ◌&&◌, Option, Some, filter, filter_map, if◌then◌else◌}
 use Rattle.base_ids.specs.Cells.{same_cell}
 use Rattle.base_ids.specs.declared.cell_id.CellId.{CellId}
-use Rattle.tick_model.specs.Universe.{Own, QueueClass, Buildings, same_class, Item, Fleet, State}
-use Rattle.tick_model.specs.Views.{View}
+use Rattle.tick_model.specs.Universe.{Own, QueueClass, same_class, Item, Fleet, State}
+use Rattle.tick_model.specs.Views.{View, belongs, stands_in}
 
 -- What is changed of some cells: what they have of their own; the queues that are written anew, with their items; each fleet,
 -- which may go; and the fleets that are sent.
@@ -14,18 +14,25 @@ pub record Change : Type 0 where
   pub fleet : Fleet → Option Fleet
   pub sent : List Fleet
 
--- nothing is changed
-abbrev pub no_change : (CellId → View) → Change
-no_change seen = record { own = λ cell. (seen cell).own; requeued = λ _ _. false; items = []; fleet = Some; sent = [] }
+-- what each cell has of its own, by what is seen of it
+abbrev pub owns : (CellId → View) → CellId → Own
+owns seen cell = (seen cell).own
 
 -- one cell has something else of its own
-abbrev pub new_own : CellId → Own → (CellId → View) → Change
-new_own cell own seen = record (no_change seen) { own = λ x. if same_cell cell x then own else (seen x).own }
+abbrev pub put_own : CellId → Own → (CellId → Own) → CellId → Own
+put_own cell own others x = if same_cell cell x then own else others x
 
--- besides, its building queue is written anew
-abbrev pub new_buildings : CellId → Own → List Item → (CellId → View) → Change
-new_buildings cell own items seen =
-    record (new_own cell own seen) { requeued = λ x class. same_cell cell x && same_class Buildings class; items = items }
+-- the cells have this of their own, and nothing else is changed
+abbrev pub new_owns : (CellId → Own) → Change
+new_owns own = record { own = own; requeued = λ _ _. false; items = []; fleet = Some; sent = [] }
+
+-- besides, a queue of a cell is written anew
+abbrev pub new_queue : (CellId → Own) → CellId → QueueClass → List Item → Change
+new_queue own cell class items = record (new_owns own) { requeued = λ x c. same_cell cell x && same_class class c; items = items }
+
+-- nothing is changed
+abbrev pub no_change : (CellId → View) → Change
+no_change seen = new_owns (owns seen)
 
 -- a change of these cells is put in place
 abbrev pub write : (CellId → Bool) → Change → State → State
@@ -34,4 +41,21 @@ write cells change state =
       own = λ cell. if cells cell then change.own cell else state.own cell;
       items = filter (λ item. not (change.requeued item.cell item.class)) state.items ++ change.items;
       fleets = filter_map change.fleet state.fleets ++ change.sent;
+    }
+
+-- an item stays in its queue
+abbrev pub stays_queued : Change → Item → Bool
+stays_queued change item = not (change.requeued item.cell item.class)
+
+-- the items of a queue of a cell after a change
+abbrev pub queue_after : Change → CellId → QueueClass → List Item → List Item
+queue_after change cell class items = filter (stays_queued change) items ++ filter (stands_in cell class) change.items
+
+-- what is seen of a cell after a change, but for how many units an account has
+abbrev pub seen_after : Change → CellId → View → View
+seen_after change cell seen =
+    record seen {
+      own = change.own cell;
+      queue = λ class. queue_after change cell class (seen.queue class);
+      fleets = filter (belongs cell) (filter_map change.fleet seen.fleets) ++ filter (belongs cell) change.sent;
     }

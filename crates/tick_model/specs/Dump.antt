@@ -9,8 +9,8 @@ use Rattle.reply_text.specs.Words.{line}
 use Rattle.laziness.specs.Touch.{last_touch, seen_at}
 use Rattle.tick_model.specs.Game.{game}
 use Rattle.tick_model.specs.Lines.{account_text, planet_text}
-use Rattle.tick_model.specs.Universe.{of_account, of_planet, Buildings, Own, Setting, Universe}
-use Rattle.tick_model.specs.Views.{View, queue}
+use Rattle.tick_model.specs.Universe.{of_account, of_planet, Own, Setting, Universe}
+use Rattle.tick_model.specs.Views.{View}
 use Rattle.tick_model.specs.World.{base_of}
 
 -- `cell account K at SECOND` or `cell planet C at SECOND`
@@ -21,7 +21,7 @@ cell_line (Planet at) second = line (codes "cell" ∷ codes "planet" ∷ coord_t
 -- the lines of a cell, by what is seen of it
 abbrev pub cell_text : Setting → CellId → View → Own → List ℕ
 cell_text setting (Account player) seen (of_account account) = account_text player account seen
-cell_text setting (Planet at) seen (of_planet planet) = planet_text setting.rules.speed at planet (queue Buildings seen.items)
+cell_text setting (Planet at) seen (of_planet planet) = planet_text setting.rules.speed at planet seen.queue
 cell_text setting _ seen own = []
 
 -- these cells, each as it is seen at a second of its own

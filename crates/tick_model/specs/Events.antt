@@ -1,44 +1,67 @@
 -- The events of a universe, their order, and what each makes of its cells. Rules: docs/RULES.md, "Events" and "What happens in one
 -- second".
-use Rattle.std.specs.Prelude.{◌≡◌, ℕ, List, [], ◌∷◌, ◌++◌, Bool, nat_le, Option, None, Some, filter, if◌then◌else◌}
+use Rattle.std.specs.Prelude.{◌≡◌, ℕ, List, [], ◌∷◌, ◌++◌, Bool, false, ◌||◌, nat_le, Option, None, Some, filter, if◌then◌else◌}
+use Rattle.std.specs.List.{list_any}
 use Rattle.base_ids.specs.Cells.{same_cell}
 use Rattle.base_ids.specs.Order.{EventKey, key_before}
 use Rattle.base_ids.specs.declared.cell_id.CellId.{CellId}
+use Rattle.base_ids.specs.declared.cell_id.CellId.TheVariants.{Planet}
 use Rattle.tick_model.specs.declared.rules.Rules.{Rules}
 use Rattle.tick_model.specs.Buildings.{done}
-use Rattle.tick_model.specs.Changes.{Change, new_buildings, write}
-use Rattle.tick_model.specs.Universe.{Buildings, Item, Setting, State}
-use Rattle.tick_model.specs.Views.{View, queue, shown, view}
+use Rattle.tick_model.specs.Changes.{Change, new_queue, owns, put_own, write}
+use Rattle.tick_model.specs.Researches.{researched}
+use Rattle.tick_model.specs.Universe.{QueueClass, Buildings, Researches, Yard, Item, Setting, State}
+use Rattle.tick_model.specs.Views.{View, shown, view}
+use Rattle.tick_model.specs.Yards.{unit_done}
 
--- An event, as the cell shows it that owes it: the building that runs is done, and these items wait behind it.
+-- An event, as the cell shows it that owes it: the first item of a queue is due, and these stand behind it. A building or a
+-- research is done then, and of a batch the next unit.
 pub data Event : Type 0 where
-  built : Item → List Item → Event
+  item_due : QueueClass → Item → List Item → Event
 
 -- the second at which it is due
 abbrev pub second_of : Event → ℕ
-second_of (built item later) = item.second
+second_of (item_due class item later) = item.second
 
 -- the cell that owes it
 abbrev pub home : Event → CellId
-home (built item later) = item.cell
+home (item_due class item later) = item.cell
+
+-- of what one request ordered, buildings come first, then research, then units
+abbrev pub step_of : QueueClass → ℕ
+step_of Buildings = 1
+step_of Researches = 2
+step_of Yard = 3
 
 -- what orders it among all events
 abbrev pub key_of : Event → EventKey
-key_of (built item later) = record { second = item.second; number = item.number; step = 1 }
+key_of (item_due class item later) = record { second = item.second; number = item.number; step = step_of class }
 
 -- a cell owes an event, by what is seen of it
 abbrev pub Owes : View → Event → Type 0
-Owes seen (built item later) = queue Buildings seen.items ≡ item ∷ later
+Owes seen (item_due class item later) = seen.queue class ≡ item ∷ later
 
--- the cells that an event needs and changes
+-- a cell is a planet that is to pay research that waits
+abbrev pub is_payer : QueueClass → List Item → CellId → Bool
+is_payer Researches waiting cell = list_any (λ item. same_cell (Planet item.place) cell) waiting
+is_payer Buildings waiting cell = false
+is_payer Yard waiting cell = false
+
+-- The cells that an event needs and changes: its own, and if a research is done the planets that are to pay those that wait.
 abbrev pub footprint : Event → CellId → Bool
-footprint (built item later) cell = same_cell item.cell cell
+footprint (item_due class item later) cell = same_cell item.cell cell || is_payer class later cell
 
 -- what it changes of them, by what is seen of them
 abbrev pub event_change : Rules → Event → (CellId → View) → Change
-event_change rules (built item later) seen =
-    let came = done rules.speed item later (seen item.cell).own in
-    new_buildings item.cell came.own came.queue seen
+event_change rules (item_due Buildings item later) seen =
+    let came = done rules.speed item later (owns seen item.cell) in
+    new_queue (put_own item.cell came.own (owns seen)) item.cell Buildings came.queue
+event_change rules (item_due Researches item later) seen =
+    let came = researched rules.speed item later (owns seen) (owns seen item.cell) in
+    new_queue came.own item.cell Researches came.queue
+event_change rules (item_due Yard item later) seen =
+    let came = unit_done rules.speed item later (owns seen item.cell) in
+    new_queue (put_own item.cell came.own (owns seen)) item.cell Yard came.queue
 
 -- an event acts
 abbrev pub effect : Setting → Event → State → State
@@ -46,13 +69,14 @@ effect setting event state =
     let cells = footprint event in
     write cells (event_change setting.rules event (shown cells (view setting.cells state))) state
 
-abbrev pub first_built : List Item → List Event
-first_built [] = []
-first_built (item ∷ later) = built item later ∷ []
+-- what the first item of a queue brings
+abbrev pub first_due : QueueClass → List Item → List Event
+first_due class [] = []
+first_due class (item ∷ later) = item_due class item later ∷ []
 
 -- the events that a cell owes
 abbrev pub owed : View → List Event
-owed seen = first_built (queue Buildings seen.items)
+owed seen = first_due Buildings (seen.queue Buildings) ++ first_due Researches (seen.queue Researches) ++ first_due Yard (seen.queue Yard)
 
 -- those that are due by a second
 abbrev pub due_by : ℕ → View → List Event

@@ -1,5 +1,5 @@
 -- The game as a ticking model: what the theory of laziness asks for, each by its definition.
-use Rattle.std.specs.Prelude.{◌≡◌, ℕ, Bool, true, false, length}
+use Rattle.std.specs.Prelude.{◌≡◌, ℕ, ◌+◌, List, [], ◌∷◌, Bool, true, false, nat_le, sum_by, ◌&&◌, ◌||◌}
 use Rattle.base_ids.specs.Cells.{same_cell}
 use Rattle.base_ids.specs.Order.{key_before}
 use Rattle.base_ids.specs.declared.cell_id.CellId.{CellId}
@@ -7,12 +7,12 @@ use Rattle.base_ids.specs.declared.cell_id.CellId.TheVariants.{Account}
 use Rattle.request_text.specs.declared.entry.Entry.{Entry}
 use Rattle.reply_text.specs.declared.reply.Reply.{Reply}
 use Rattle.laziness.specs.Model.{Model}
-use Rattle.tick_model.specs.Events.{Event, Owes, effect, footprint, home, key_of, next_event, second_of}
+use Rattle.tick_model.specs.Events.{Event, Owes, effect, footprint, home, is_payer, key_of, next_event, second_of}
 use Rattle.tick_model.specs.Production.{advance, gains}
 use Rattle.tick_model.specs.Requests.{asked}
 use Rattle.tick_model.specs.Rules.{KeepsRules}
 use Rattle.tick_model.specs.Step.{step}
-use Rattle.tick_model.specs.Universe.{Own, of_planet, Setting, State}
+use Rattle.tick_model.specs.Universe.{Own, of_planet, Researches, Item, Setting, State}
 use Rattle.tick_model.specs.Views.{View, view}
 
 -- a planet can't be brought to a second without its owner's account
@@ -20,9 +20,18 @@ abbrev pub own_brings : Own → CellId → Bool
 own_brings (of_planet planet) cell = same_cell (Account planet.owner) cell
 own_brings _ cell = false
 
+-- nor an account by whose research that is done by then others can start, without the planets that are to pay these
+abbrev pub research_brings : ℕ → List Item → CellId → Bool
+research_brings second [] cell = false
+research_brings second (item ∷ later) cell = nat_le item.second second && is_payer Researches later cell
+
 -- the cells without which a cell can't be brought to a second
 abbrev pub brings : View → ℕ → CellId → Bool
-brings seen second cell = own_brings seen.own cell
+brings seen second cell = own_brings seen.own cell || research_brings second (seen.queue Researches) cell
+
+-- how many events of these items can still come: one for each building and research, and one for each unit
+abbrev pub events_left : List Item → ℕ
+events_left items = sum_by (λ item. 1 + item.left) items
 
 abbrev pub game : Setting → Model
 game setting = record {
@@ -39,7 +48,7 @@ game setting = record {
   Before = λ one other. key_before (key_of one) (key_of other) ≡ true;
   effect = effect setting;
   next = next_event setting;
-  measure = λ state. length state.items;
+  measure = λ state. events_left state.items;
   gains = gains setting.rules;
   advance = advance setting;
   Ask = Entry;

@@ -3,6 +3,8 @@ pub mod Views
 pub mod Production
 pub mod Buildings
 pub mod Changes
+pub mod Researches
+pub mod Yards
 pub mod Events
 pub mod Refusals
 pub mod Lines

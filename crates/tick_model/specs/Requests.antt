@@ -1,5 +1,5 @@
 -- What comes of each request, by what is seen of the cells that it asks for. Rules: docs/RULES.md, "Requests".
-use Rattle.std.specs.Prelude.{ℕ, ◌==◌, List, [], ◌∷◌, ◌++◌, Bool, true, false, ◌&&◌, ◌||◌, length, slice_set, if◌then◌else◌}
+use Rattle.std.specs.Prelude.{ℕ, ◌+◌, ◌==◌, List, [], ◌∷◌, ◌++◌, Bool, true, false, ◌&&◌, ◌||◌, length, slice_set, if◌then◌else◌}
 use Rattle.std.specs.List.{list_any}
 use Rattle.base_ids.specs.Cells.{same_cell, same_player}
 use Rattle.base_ids.specs.declared.coord.Coord.{Coord}
@@ -10,21 +10,26 @@ use Rattle.catalog.specs.Kinds.{place_in}
 use Rattle.catalog.specs.declared.classes.TheConstants.{WORKS}
 use Rattle.catalog.specs.declared.kind.Kind.{Kind}
 use Rattle.request_text.specs.declared.request.Request.{Request}
-use Rattle.request_text.specs.declared.request.Request.TheVariants.{Planet as PlanetOf, Build, Set}
+use Rattle.request_text.specs.declared.request.Request.TheVariants.{Planet as PlanetOf, Account as AccountOf, Build, Research, Yard as YardOf, Set}
 use Rattle.reply_text.specs.OrderLines.{starts_line, waits_line}
 use Rattle.tick_model.specs.declared.codes.TheConstants.{NO_PLAYER, NO_PLANET, NOT_YOURS, NOT_BUILT}
 use Rattle.tick_model.specs.declared.rules.Rules.{Rules}
 use Rattle.tick_model.specs.Buildings.{pays, started}
-use Rattle.tick_model.specs.Changes.{Change, new_buildings, new_own, no_change}
-use Rattle.tick_model.specs.Lines.{planet_text}
-use Rattle.tick_model.specs.Refusals.{build_refusal}
-use Rattle.tick_model.specs.Universe.{Own, of_nothing, of_account, of_planet, AccountFields, Buildings, Item, PlanetFields}
-use Rattle.tick_model.specs.Views.{View, queue}
+use Rattle.tick_model.specs.Changes.{Change, new_owns, new_queue, no_change, owns, put_own}
+use Rattle.tick_model.specs.Lines.{account_text, planet_text}
+use Rattle.tick_model.specs.Refusals.{build_refusal, research_refusal, yard_refusal}
+use Rattle.tick_model.specs.Researches.{pays_research, started_research}
+use Rattle.tick_model.specs.Universe.{Own, of_nothing, of_account, of_planet, AccountFields, QueueClass, Buildings, Researches, Yard, Item, PlanetFields}
+use Rattle.tick_model.specs.Views.{View}
+use Rattle.tick_model.specs.Yards.{begun, pays_batch}
 
 -- the forms that are answered today; a line of any other form is no request yet
 abbrev pub IsBuilt : Request → Type 0
 IsBuilt (PlanetOf at) = Unit {0}
+IsBuilt AccountOf = Unit {0}
 IsBuilt (Build at building) = Unit {0}
+IsBuilt (Research at technology) = Unit {0}
+IsBuilt (YardOf at unit count) = Unit {0}
 IsBuilt (Set at work tenths) = Unit {0}
 IsBuilt _ = ⊥
 
@@ -38,6 +43,8 @@ is_there (of_planet planet) = true
 abbrev pub names : (CellId → View) → Request → CellId → Bool
 names seen (PlanetOf at) cell = same_cell (Planet at) cell
 names seen (Build at building) cell = same_cell (Planet at) cell
+names seen (Research at technology) cell = same_cell (Planet at) cell
+names seen (YardOf at unit count) cell = same_cell (Planet at) cell
 names seen (Set at work tenths) cell = same_cell (Planet at) cell
 names seen _ cell = false
 
@@ -87,51 +94,108 @@ on_own sight player (of_account account) (of_account other) grant = refused sigh
 on_own sight player of_nothing there grant = refused sight NO_PLAYER
 on_own sight player (of_planet planet) there grant = refused sight NO_PLAYER
 
--- the building queue of a planet
-abbrev pub buildings_at : Sight → Coord → List Item
-buildings_at sight at = queue Buildings (sight.seen (Planet at)).items
+-- A request about the caller's account alone, by what it has of its own. It is refused with 1 if the caller is no player.
+abbrev pub on_account : Sight → Own → (AccountFields → Outcome) → Outcome
+on_account sight (of_account account) grant = grant account
+on_account sight of_nothing grant = refused sight NO_PLAYER
+on_account sight (of_planet planet) grant = refused sight NO_PLAYER
+
+-- a queue of a cell
+abbrev pub queue_seen : Sight → CellId → QueueClass → List Item
+queue_seen sight cell class = (sight.seen cell).queue class
+
+-- a planet has this of its own, and all other cells are as they are
+abbrev pub with_planet : Sight → Coord → PlanetFields → CellId → Own
+with_planet sight at planet = put_own (Planet at) (of_planet planet) (owns sight.seen)
 
 -- `planet C`: it is shown
 abbrev pub shows : Sight → Coord → AccountFields → PlanetFields → Outcome
-shows sight at account planet = granted (planet_text sight.rules.speed at planet (buildings_at sight at)) (no_change sight.seen)
+shows sight at account planet = granted (planet_text sight.rules.speed at planet (queue_seen sight (Planet at))) (no_change sight.seen)
 
--- an item that is ordered
-abbrev pub ordered : Sight → Coord → Kind → Item
-ordered sight at kind =
-    record { number = sight.number; cell = Planet at; class = Buildings; kind = kind; level = 0; second = 0 }
+-- `account`: it is shown
+abbrev pub tells : Sight → Player → AccountFields → Outcome
+tells sight player account = granted (account_text player account (sight.seen (Account player))) (no_change sight.seen)
 
--- an order in an empty queue is paid and starts at once; else it waits
+-- an item that is ordered at a place: of a yard so many units, of other queues 0
+abbrev pub ordered : Sight → CellId → QueueClass → Coord → Kind → ℕ → Item
+ordered sight cell class at kind count =
+    record { number = sight.number; cell = cell; class = class; kind = kind; place = at; level = 0; left = count; unit_seconds = 0; second = 0 }
+
+-- what an order comes to: an item joins a queue
+abbrev pub joins : (CellId → Own) → List ℕ → List Item → Item → Outcome
+joins own body items item = granted body (new_queue own item.cell item.class (items ++ item ∷ []))
+
+-- an item that joins these has this place in the queue, counted from 1
+abbrev pub place_behind : List Item → ℕ
+place_behind items = length items + 1
+
+-- an order of a building in an empty queue is paid and starts at once; else it waits
 abbrev pub queues : Sight → Coord → Kind → PlanetFields → List Item → Outcome
 queues sight at kind planet [] =
-    let item = started sight.rules.speed sight.moment planet (ordered sight at kind) in
-    granted (starts_line item.level item.second) (new_buildings (Planet at) (of_planet (pays planet kind)) (item ∷ []) sight.seen)
+    let item = started sight.rules.speed sight.moment planet (ordered sight (Planet at) Buildings at kind 0) in
+    joins (with_planet sight at (pays planet kind)) (starts_line item.level item.second) [] item
 queues sight at kind planet (first ∷ later) =
-    let items = (first ∷ later) ++ ordered sight at kind ∷ [] in
-    granted (waits_line (length items)) (new_buildings (Planet at) (of_planet planet) items sight.seen)
+    joins (owns sight.seen) (waits_line (place_behind (first ∷ later))) (first ∷ later) (ordered sight (Planet at) Buildings at kind 0)
+
+-- so does one of a technology, which the planet pays
+abbrev pub queues_research : Sight → Player → Coord → Kind → AccountFields → PlanetFields → List Item → Outcome
+queues_research sight player at kind account planet [] =
+    let item = started_research sight.rules.speed sight.moment account planet (ordered sight (Account player) Researches at kind 0) in
+    joins (with_planet sight at (pays_research account planet kind)) (starts_line item.level item.second) [] item
+queues_research sight player at kind account planet (first ∷ later) =
+    joins (owns sight.seen) (waits_line (place_behind (first ∷ later))) (first ∷ later) (ordered sight (Account player) Researches at kind 0)
+
+-- A batch is paid when it is ordered. In an empty yard it is the first at once; else it waits.
+abbrev pub queues_batch : Sight → Coord → Kind → ℕ → PlanetFields → List Item → Outcome
+queues_batch sight at kind count planet [] =
+    let batch = begun sight.rules.speed sight.moment planet (ordered sight (Planet at) Yard at kind count) in
+    joins (with_planet sight at (pays_batch planet kind count)) (starts_line count batch.second) [] batch
+queues_batch sight at kind count planet (first ∷ later) =
+    joins (with_planet sight at (pays_batch planet kind count)) (waits_line (place_behind (first ∷ later))) (first ∷ later)
+    (ordered sight (Planet at) Yard at kind count)
+
+-- what is ordered is refused with a code above 0, and else granted
+abbrev pub unless : Sight → ℕ → Outcome → Outcome
+unless sight code grant = if code == 0 then grant else refused sight code
 
 -- `build C BUILDING`
 abbrev pub builds : Sight → Coord → Kind → AccountFields → PlanetFields → Outcome
 builds sight at kind account planet =
-    let items = buildings_at sight at in
-    let code = build_refusal account planet items kind in
-    if code == 0 then queues sight at kind planet items else refused sight code
+    let items = queue_seen sight (Planet at) Buildings in
+    unless sight (build_refusal account planet items kind) (queues sight at kind planet items)
+
+-- `research C TECH`
+abbrev pub researches : Sight → Player → Coord → Kind → AccountFields → PlanetFields → Outcome
+researches sight player at kind account planet =
+    let items = queue_seen sight (Account player) Researches in
+    unless sight (research_refusal sight.rules.speed account planet items kind) (queues_research sight player at kind account planet items)
+
+-- `yard C UNIT COUNT`
+abbrev pub yards : Sight → Player → Coord → Kind → ℕ → AccountFields → PlanetFields → Outcome
+yards sight player at kind count account planet =
+    let batches = queue_seen sight (Planet at) Yard in
+    unless sight (yard_refusal account (sight.seen (Account player)).units planet batches kind count) (queues_batch sight at kind count planet batches)
 
 -- `set C WORK TENTHS`
 abbrev pub sets : Sight → Coord → Kind → ℕ → AccountFields → PlanetFields → Outcome
 sets sight at kind tenths account planet =
-    let set = record planet { tenths = slice_set planet.tenths (place_in WORKS kind) tenths } in
-    granted [] (new_own (Planet at) (of_planet set) sight.seen)
+    granted [] (new_owns (with_planet sight at (record planet { tenths = slice_set planet.tenths (place_in WORKS kind) tenths })))
 
 -- what the caller's account and a place have of their own
 abbrev pub own_seen : Sight → CellId → Own
 own_seen sight cell = (sight.seen cell).own
 
+-- what comes of a request about the caller's own planet at a place
+abbrev pub at_own : Sight → Player → Coord → (AccountFields → PlanetFields → Outcome) → Outcome
+at_own sight player at grant = on_own sight player (own_seen sight (Account player)) (own_seen sight (Planet at)) grant
+
 -- What comes of a request. No line of a form that isn't built yet makes an entry; since the definition is of every request, such a
 -- form is refused here with a code that no text shows.
 abbrev pub outcome : Sight → Player → Request → Outcome
-outcome sight player (PlanetOf at) = on_own sight player (own_seen sight (Account player)) (own_seen sight (Planet at)) (shows sight at)
-outcome sight player (Build at building) =
-    on_own sight player (own_seen sight (Account player)) (own_seen sight (Planet at)) (builds sight at building.kind)
-outcome sight player (Set at work tenths) =
-    on_own sight player (own_seen sight (Account player)) (own_seen sight (Planet at)) (sets sight at work.kind tenths.n)
+outcome sight player (PlanetOf at) = at_own sight player at (shows sight at)
+outcome sight player AccountOf = on_account sight (own_seen sight (Account player)) (tells sight player)
+outcome sight player (Build at building) = at_own sight player at (builds sight at building.kind)
+outcome sight player (Research at technology) = at_own sight player at (researches sight player at technology.kind)
+outcome sight player (YardOf at unit count) = at_own sight player at (yards sight player at unit.kind count.n)
+outcome sight player (Set at work tenths) = at_own sight player at (sets sight at work.kind tenths.n)
 outcome sight player _ = refused sight NOT_BUILT

@@ -44,14 +44,19 @@ same_class Researches Researches = true
 same_class Yard Yard = true
 same_class _ _ = false
 
--- An item of a queue: the number of the request that ordered it, the cell and the class of its queue, its kind, and, once it
--- runs, the level that it reaches and the second at which it does. While it waits, both are 0.
+-- An item of a queue: the number of the request that ordered it, the cell and the class of its queue, its kind, and the planet that
+-- pays it. A building or a research that runs has the level that it reaches, and the second at which it does. A batch of units has
+-- how many are left to build; the first batch of a yard also has the seconds that each of them takes, and the second at which the
+-- next one is done. What an item doesn't have is 0.
 pub record Item : Type 0 where
   pub number : ℕ
   pub cell : CellId
   pub class : QueueClass
   pub kind : Kind
+  pub place : Coord
   pub level : ℕ
+  pub left : ℕ
+  pub unit_seconds : ℕ
   pub second : ℕ
 
 -- a fleet: the number of the request that sent it, where it flies, and who owns it and its target.

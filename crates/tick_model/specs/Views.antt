@@ -1,32 +1,32 @@
 -- What a universe has of one cell. Rule: docs/RULES.md, "Names and their order".
-use Rattle.std.specs.Prelude.{ℕ, List, [], Bool, Option, None, Some, filter, filter_map, map, sum, ◌&&◌, ◌||◌, if◌then◌else◌}
+use Rattle.std.specs.Prelude.{ℕ, ◌+◌, List, [], Bool, Option, None, Some, filter, filter_map, sum, sum_by, ◌&&◌, ◌||◌, if◌then◌else◌}
 use Rattle.base_ids.specs.Cells.{same_cell, same_player}
 use Rattle.base_ids.specs.declared.coord.Coord.{Coord}
 use Rattle.base_ids.specs.declared.player.Player.{Player}
 use Rattle.base_ids.specs.declared.cell_id.CellId.{CellId}
 use Rattle.base_ids.specs.declared.cell_id.CellId.TheVariants.{Account, Planet}
-use Rattle.tick_model.specs.Universe.{Own, of_nothing, of_planet, QueueClass, same_class, Item, Fleet, State}
+use Rattle.tick_model.specs.Universe.{Own, of_nothing, of_planet, QueueClass, Yard, same_class, Item, Fleet, State}
 
--- What is seen of a cell: what it has of its own; the items of its queues; the fleets that belong to it; and of an account
--- its planets, in the order of the directory, and how many units they have.
+-- What is seen of a cell: what it has of its own; its queues; the fleets that belong to it; and of an account its planets, in
+-- the order of the directory, and how many units they have, those of their yards included.
 pub record View : Type 0 where
   pub own : Own
-  pub items : List Item
+  pub queue : QueueClass → List Item
   pub fleets : List Fleet
   pub planets : List Coord
   pub units : ℕ
 
 -- nothing is seen
 abbrev pub nothing_seen : View
-nothing_seen = record { own = of_nothing; items = []; fleets = []; planets = []; units = 0 }
+nothing_seen = record { own = of_nothing; queue = λ class. []; fleets = []; planets = []; units = 0 }
 
--- an item stands in a queue of this cell
-abbrev pub stands_in : CellId → Item → Bool
-stands_in cell item = same_cell item.cell cell
+-- an item stands in this queue of a cell
+abbrev pub stands_in : CellId → QueueClass → Item → Bool
+stands_in cell class item = same_cell cell item.cell && same_class class item.class
 
--- of the items of a cell, those of one queue
-abbrev pub queue : QueueClass → List Item → List Item
-queue class items = filter (λ item. same_class item.class class) items
+-- the items of a queue of a cell, among these
+abbrev pub queue_in : List Item → CellId → QueueClass → List Item
+queue_in items cell class = filter (stands_in cell class) items
 
 -- a fleet belongs to its origin and its owner's account, and on its way out also to its target and the account
 -- of its target's owner
@@ -35,14 +35,21 @@ belongs cell fleet =
     same_cell (Planet fleet.origin) cell || same_cell (Account fleet.owner) cell
     || (fleet.outbound && (same_cell (Planet fleet.target) cell || same_cell (Account fleet.target_owner) cell))
 
--- what its owner's account counts of a planet
+-- how many units are left to build in some batches
+abbrev pub units_left : List Item → ℕ
+units_left batches = sum_by (λ batch. batch.left) batches
+
+-- what its owner's account counts of a planet: the units that stand there, and those that its yard is to build
 pub record Holding : Type 0 where
   pub owner : Player
   pub units : ℕ
 
-abbrev pub holding : Own → Option Holding
-holding (of_planet planet) = Some (record { owner = planet.owner; units = sum planet.units })
-holding _ = None
+abbrev pub holding : Own → List Item → Option Holding
+holding (of_planet planet) batches = Some (record { owner = planet.owner; units = sum planet.units + units_left batches })
+holding _ batches = None
+
+abbrev pub holding_at : State → CellId → Option Holding
+holding_at state cell = holding (state.own cell) (queue_in state.items cell Yard)
 
 -- the place of a planet, if it is this player's
 abbrev pub place_held : Player → CellId → Option Holding → Option Coord
@@ -61,17 +68,17 @@ planets_of cells held (Planet at) = []
 
 -- the units of an account
 abbrev pub units_of : List CellId → (CellId → Option Holding) → CellId → ℕ
-units_of cells held (Account player) = sum (map (λ cell. units_held player (held cell)) cells)
+units_of cells held (Account player) = sum_by (λ cell. units_held player (held cell)) cells
 units_of cells held (Planet at) = 0
 
 abbrev pub view : List CellId → State → CellId → View
 view cells state cell =
     record {
       own = state.own cell;
-      items = filter (stands_in cell) state.items;
+      queue = queue_in state.items cell;
       fleets = filter (belongs cell) state.fleets;
-      planets = planets_of cells (λ x. holding (state.own x)) cell;
-      units = units_of cells (λ x. holding (state.own x)) cell;
+      planets = planets_of cells (holding_at state) cell;
+      units = units_of cells (holding_at state) cell;
     }
 
 -- nothing of any cell but these is shown

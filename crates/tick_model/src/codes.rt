@@ -22,6 +22,9 @@ pub const NO_FIELDS: u8 = 7;
 /// The planet can't pay.
 pub const POOR: u8 = 12;
 
+/// The account's units, those that are ordered included, would be more than `catalog::UNITS`.
+pub const CEILING: u8 = 17;
+
 /// The form of the request isn't played yet. No text shows this code, since no line asks for such a form.
 pub const NOT_BUILT: u8 = 255;
 

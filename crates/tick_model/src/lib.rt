@@ -4,10 +4,11 @@
 mod codes;
 mod debris;
 mod laws;
+mod placed;
 mod rules;
 
 pub use codes::{
-    LEVEL_CAP, MOST_QUEUED, NO_FIELDS, NO_PLANET, NO_PLAYER, NOT_BUILT, NOT_YOURS, POOR,
+    CEILING, LEVEL_CAP, MOST_QUEUED, NO_FIELDS, NO_PLANET, NO_PLAYER, NOT_BUILT, NOT_YOURS, POOR,
     QUEUE_FULL, REQUIRES,
 };
 pub use debris::Debris;
@@ -15,4 +16,5 @@ pub use laws::{
     answer_once, entries_are_answered, game_is_lawful, histories_are_kept, replies_are_numbered,
     worlds_are_founded,
 };
+pub use placed::Placed;
 pub use rules::Rules;

@@ -1,10 +1,4 @@
-pub mod Settling
-pub mod Pairs
-pub mod Thinned
-pub mod Sound
-pub mod Firsts
-pub mod Gained
-pub mod Finished
-pub mod Seconds
-pub mod Progress
-pub mod Steps
+pub mod Wholes
+pub mod Elapsing
+pub mod Answered
+pub mod Samples

@@ -1,2 +1,2 @@
-pub mod Done
-pub mod Ticking
+pub mod Standing
+pub mod Asking

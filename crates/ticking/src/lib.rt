@@ -1,7 +1,10 @@
-//! The plain slow program: a universe in memory that ticks second by second, every planet at every second.
+//! The plain slow program: a universe in memory all of whose cells tick second by second, and that answers requests.
 #![tactic(auto)]
 
-mod done;
-mod ticking;
+mod passing;
+mod universe;
 
-pub use ticking::tick_to;
+pub use universe::TickingUniverse;
+
+#[cfg(test)]
+mod tests;

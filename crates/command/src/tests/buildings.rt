@@ -19,10 +19,10 @@ energy 0 11\ndebris 0 0\nlevel metalmine 1\n.\n";
 }
 
 /// Lines of the founding text about the planet at 1:1:1, a script, and the answers to it.
-type Played<'a> = (&'a [u8], &'a [u8], &'a [u8]);
+pub(super) type Played<'a> = (&'a [u8], &'a [u8], &'a [u8]);
 
 /// What `trial` writes if the founding text has more lines about the one planet.
-fn is_played(alloc: Global, played: Played) -> Result<bool, Fail> {
+pub(super) fn is_played(alloc: Global, played: Played) -> Result<bool, Fail> {
     let (said, script, wanted) = played;
     let mut input = Vec::from_slice(
         alloc,
@@ -114,11 +114,12 @@ fn each_code_of_a_refusal_and_a_setting(rt: HostRuntime) -> Result<(), Fail> {
         b"universe 7 1 1000 0\nplayer 1\nplayer 2\nplanet 1:1:1 1 40 19\nplanet 1:1:2 2 40 163\n\
 level 1:1:1 metalmine 2\nlevel 1:1:1 crystalstore 16\n.\n\
 @0 1 planet 1:1:9\n@0 1 planet 1:1:2\n@0 1 build 1:1:1 nanite\n@0 1 build 1:1:1 crystalstore\n\
-@0 1 build 1:1:1 metalmine\n@0 1 build 1:1:1 solarplant\n@0 1 set 1:1:1 solarplant 5\n@0 3 planet 1:1:1\n";
+@0 1 build 1:1:1 metalmine\n@0 1 build 1:1:1 solarplant\n@0 1 set 1:1:1 solarplant 5\n@0 3 planet 1:1:1\n\
+@0 3 account\n@0 1 research 1:1:1 energy\n@0 1 yard 1:1:1 launcher 1\n";
     let (status, sink) = tried(rt.alloc(), input, usize::MAX, &[], &[])?;
     assert_eq!(rt; status, DONE);
     let wanted = b"no 1 0 2\nno 2 0 3\nno 3 0 6\nno 4 0 5\n\
-ok 5 0\nstarts 3 241\n.\nno 6 0 7\nok 7 0\n.\nno 8 0 1\n";
+ok 5 0\nstarts 3 241\n.\nno 6 0 7\nok 7 0\n.\nno 8 0 1\nno 9 0 1\nno 10 0 6\nno 11 0 6\n";
     assert_eq!(rt; sink.written(), wanted.as_slice());
     Ok(())
 }

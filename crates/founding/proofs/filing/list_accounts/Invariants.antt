@@ -1,9 +1,9 @@
 use Rattle.std.proofs.Common.{◌≡◌, ◌+◌, ◌≤◌, ◌++◌, length, map, vec_capacity}
-use Rattle.founding.specs.Filing.{account_of}
+use Rattle.founding.specs.Filing.{account_facts, account_sketched}
 use Rattle.founding.proofs.filing.list_accounts.Given as goal
 
 abbrev pub invariant-players : goal.invariant-players
 invariant-players l = record {
-  listed : l.list.items ++ map account_of l.player-iterator ≡ map account_of l.fn.players.entries;
+  listed : map account_facts l.list.items ++ map account_sketched l.player-iterator ≡ map account_sketched l.fn.players.entries;
   room : length l.list.items + length l.player-iterator ≤ vec_capacity l.list;
 }

@@ -10,6 +10,7 @@ returns c = record {
   lazy = c.lazy_equals_ticking.ensures tt;
   touches = c.entries_touch_their_closure.ensures tt;
   cells = c.cells_decide.ensures tt;
+  parts = c.parts_come_first.ensures tt;
   reply = parcel_reply;
   stamps = parcel_stamps;
 }

@@ -19,3 +19,6 @@ ghosts-entries_touch_their_closure a = record { Setting = Unit {0}; model = λ _
 
 abbrev pub ghosts-cells_decide : goal.ghosts-cells_decide
 ghosts-cells_decide a = record { Setting = Unit {0}; model = λ _. parcel_model; laws = λ _. parcel_laws }
+
+abbrev pub ghosts-parts_come_first : goal.ghosts-parts_come_first
+ghosts-parts_come_first a = record { Setting = Unit {0}; model = λ _. parcel_model; laws = λ _. parcel_laws }

@@ -1,8 +1,8 @@
 use Rattle.happenings.specs.Gaining.{GainsIn}
 use Rattle.happenings.proofs.Copying.{if_ok}
 use Rattle.lazy.specs.Advancing.{AdvancesIn}
-use Rattle.lazy.proofs.Coursing.{can-happen, course-advances, course-behind, course-goes-on}
-use Rattle.lazy.proofs.Waiting.{happens_same, waiting_falls}
+use Rattle.lazy.proofs.Coursing.{can-happen, course-advances, course-behind, course-falls, course-goes-on}
+use Rattle.lazy.proofs.Waiting.{happens_same}
 use Rattle.lazy.proofs.advancing.advance.Goals as goal
 
 pub apply-requires-clause-due : goal.apply-requires-clause-due
@@ -17,7 +17,10 @@ events-smaller c =
     let held = c.args.cells.now in
     let old = c.events.copies in
     let can = can-happen c.args.rules.now held old c.args.moment c.events.invariant c.in-Some.due c.in-Some.ensures.shown known.0 known.1 known.2 c.in-Some.ensures.due c.requires.in_time in
-    waiting_falls c.args.rules.now.speed c.in-Some.due old c.apply.new.cells can c.in_ok-apply.ensures.happens held c.events.invariant.same
+    let due = c.in-Some.due in
+    let new = c.apply.new.cells in
+    let same = happens_same c.args.rules.now due old new can c.in_ok-apply.ensures.happens in
+    course-falls c.args.rules.now held old c.args.moment c.events.invariant due c.in-Some.ensures.shown new c.in_ok-apply.ensures.acts same known.0 known.1 known.2
 
 pub events-preserved : goal.events-preserved
 events-preserved c =
@@ -28,7 +31,7 @@ events-preserved c =
     let new = c.apply.new.cells in
     let can = can-happen c.args.rules.now held old c.args.moment c.events.invariant due c.in-Some.ensures.shown known.0 known.1 known.2 c.in-Some.ensures.due c.requires.in_time in
     course-goes-on c.args.rules.now held old c.args.moment c.events.invariant due c.in-Some.ensures.shown new c.in_ok-apply.ensures.acts c.in_ok-apply.ensures.named
-    (happens_same c.args.rules.now.speed due old new can c.in_ok-apply.ensures.happens)
+    (happens_same c.args.rules.now due old new can c.in_ok-apply.ensures.happens)
 
 pub gained-requires-clause-behind : goal.gained-requires-clause-behind
 gained-requires-clause-behind c =

@@ -1,4 +1,4 @@
--- The copies are on their course. Each event takes an item out of a queue.
+-- The copies are on their course. Each event leaves fewer to come.
 use Rattle.happenings.specs.Sights.{names_held}
 use Rattle.lazy.proofs.Coursing.{Courses}
 use Rattle.lazy.proofs.Waiting.{waiting_in}

@@ -1,15 +1,14 @@
 use Rattle.std.proofs.Common.{◌∙◌, ap, refl, arith}
 use Rattle.std.specs.Prelude.{map}
-use Rattle.std.specs.BTreeMap.{is_at}
 use Rattle.std.proofs.lemmas.List.{length-map}
-use Rattle.std.proofs.lemmas.Map.{keys-set_value}
+use Rattle.std.proofs.Math.Path.{fun_ext}
 use Rattle.std.proofs.lemmas.Map.Entries.{length-values_of}
-use Rattle.std.specs.Map.{keys_of, values_of}
+use Rattle.std.specs.Map.{values_of}
 use Rattle.founding.specs.Drafts.{planet_before, put, DraftPlanet, Gives}
-use Rattle.founding.specs.DraftMaps.{draft_of, planet_of, player_order}
+use Rattle.founding.specs.DraftMaps.{draft_of, own_in, planet_of}
 use Rattle.founding.proofs.Finding.{taken_absent, taken_put}
 use Rattle.founding.proofs.Judging.{has_room, named_some}
-use Rattle.founding.proofs.Keeping.{planet_kept}
+use Rattle.founding.proofs.Keeping.{planet_kept, players-altered, unaltered}
 use Rattle.founding.proofs.Stepping.{steps-memory}
 use Rattle.founding.proofs.draft.Draft.give_planet.Goals as goal
 
@@ -39,9 +38,11 @@ returns-clause-steps c =
     let here = ap (λ (p : DraftPlanet). p.at) c.new.ensures in
     let absent = taken_absent c.args.planet.at entries c.requires.placed may.free in
     let planets = ap (λ es. map planet_of (values_of es)) c.in_ok-insert.ensures.entries ∙ taken_put c.args.planet.at c.new.result entries here c.requires.placed absent ∙ ap (λ p. put planet_before p (draft_of old).planets) c.new.ensures in
-    let adds = c.add_place.ensures in
-    let players = ap keys_of adds.entries ∙ keys-set_value (is_at (player_order c.args.planet.owner)) old.players.entries adds.places in
-    (may, λ i. record (draft_of old) { players = players i; planets = planets i })
+    let owner = c.args.planet.owner in
+    let has = named_some old c.args.planet may in
+    let players = players-altered owner _ _ _ old.players c.add_place.new.players has c.add_place.ensures in
+    let owns = fun_ext (λ q. unaltered owner _ _ _ old.players c.add_place.new.players has c.add_place.ensures own_in q c.add_place.ensures.owned) in
+    (may, λ i. record (draft_of old) { players = players i; owns = owns i; planets = planets i })
 
 pub returns-clause-kept : goal.returns-clause-kept
 returns-clause-kept c =

@@ -25,7 +25,7 @@ returns-in-Some c =
     let entries = c.args.self.now.planets.entries in
     let planets = length-map (values_of entries) planet_of in
     let count = length-values_of entries in
-    owned_tested c.args.self.now c.args.planet c.in-Some.places.now c.len-in-Some.result c.requires (omega (arith, planets, count)) c.if-contains_key.ensures c.in-Some.ensures.value c.len-in-Some.ensures
+    owned_tested c.args.self.now c.args.planet c.in-Some.account.now c.len-in-Some.result c.requires (omega (arith, planets, count)) c.if-contains_key.ensures c.in-Some.ensures.value c.len-in-Some.ensures
 
 pub returns-in-None : goal.returns-in-None
 returns-in-None c = (λ (is : false ≡ true). absurd (cc), λ may. absurd (stranger_refused c.args.self.now c.args.planet c.in-None.ensures.value may))

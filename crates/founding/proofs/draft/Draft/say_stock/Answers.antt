@@ -23,5 +23,6 @@ returns-clause-kept c =
     let was = planet_of c.in-Some.sketch in
     let at = ap (λ (p : DraftPlanet). p.at) c.stocked_with.ensures in
     let owner = ap (λ (p : DraftPlanet). p.own.owner) c.stocked_with.ensures in
+    let units = ap (λ (p : DraftPlanet). p.own.units) c.stocked_with.ensures in
     let stands : planet_at c.stocked_with.result.at (draft_of old).planets ≡ Some was = ap (λ place. planet_at place (draft_of old).planets) (at ∙ c.in-Some.ensures.1) ∙ c.in-Some.ensures.0 in
-    changed_kept old new c.stocked_with.result was c.requires stands at owner c.put_back.ensures refl refl refl
+    changed_kept old new c.stocked_with.result was c.requires stands at owner units c.put_back.ensures refl refl refl

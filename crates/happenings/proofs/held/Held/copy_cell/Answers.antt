@@ -1,12 +1,11 @@
-use Rattle.std.proofs.Common.{◌≡◌, [], map, ap, ◌∙◌, sym, subst, Option}
+use Rattle.std.proofs.Common.{◌≡◌, ap, ◌∙◌, sym, subst, Option}
 use Rattle.std.specs.Prelude.{IfSome, option_map}
 use Rattle.base_ids.specs.declared.cell_id.CellId.TheVariants.{Account, Planet}
-use Rattle.planet_cell.specs.Planet.{item_of}
-use Rattle.tick_model.specs.Universe.{of_planet}
 use Rattle.happenings.specs.Held.{Copies, Puts, account_stand, held_at, planet_stand}
 use Rattle.happenings.specs.declared.held.AccountCell.{AccountCell}
 use Rattle.happenings.specs.declared.held.PlanetCell.{PlanetCell}
 use Rattle.happenings.proofs.Copying.{copies_none, copies_one, on_ok}
+use Rattle.happenings.proofs.Gains.{same_stand}
 use Rattle.happenings.proofs.held.Held.copy_cell.Goals as goal
 
 pub returns-in_ok-copy-in-Some-clause-copies : goal.returns-in_ok-copy-in-Some-clause-copies
@@ -37,16 +36,7 @@ returns-in_ok-copy-in-Some-planet-clause-copies c =
     let own = subst (λ (o : Option PlanetCell). IfSome o (λ cell. cell.planet.at ≡ at)) found (c.requires.places at) in
     let name = c.in-Planet.is in
     let same = c.in_ok-copy-in-Some-planet.ensures in
-    let stand : planet_stand copy ≡ planet_stand old = (λ i. record {
-      second = same.0 i;
-      seen = record {
-        own = of_planet (sym same.1.fields i);
-        items = map (item_of (sym same.1.at i)) (sym same.1.items i);
-        fleets = [];
-        planets = [];
-        units = 0;
-      };
-    }) in
+    let stand : planet_stand copy ≡ planet_stand old = sym (same_stand old copy (sym same.0) same.1) in
     on_ok c.put_planet.result (Puts c.args.other.now c.put_planet.new.self (Planet copy.planet.at) (planet_stand copy)) (Copies held c.args.name c.args.other.now c.put_planet.new.self)
     (λ puts. subst (λ n. Copies held n c.args.other.now c.put_planet.new.self) (sym name)
     (copies_one (held_at held) c.args.other.now c.put_planet.new.self (Planet at) (Planet copy.planet.at) (planet_stand old) (planet_stand copy)

@@ -1,39 +1,9 @@
-use Rattle.std.proofs.Common.{◌≡◌, ◌∷◌, ◌++◌, [], ap, ◌∙◌, sym, refl, subst, append_assoc, Some}
-use Rattle.std.proofs.lemmas.List.{append-nil}
-use Rattle.std.proofs.lemmas.Map.Iter.{rest_all, rest_more}
-use Rattle.std.specs.BTreeMap.{get}
-use Rattle.std.specs.Map.Iter.{deref_pair}
-use Rattle.base_ids.specs.declared.coord.Coord.{Coord}
-use Rattle.happenings.specs.Due.{IsFirstOf, sooner_of}
-use Rattle.happenings.specs.Orders.{place_order}
-use Rattle.happenings.specs.declared.held.PlanetCell.{PlanetCell}
-use Rattle.happenings.proofs.Firsts.{first_all, first_more}
-use Rattle.happenings.proofs.Keys.{holds_within}
-use Rattle.happenings.proofs.Owing.{finds_first}
+use Rattle.std.proofs.Common.{sym}
+use Rattle.happenings.proofs.Owing.{finds_first, first_of_both}
 use Rattle.happenings.proofs.held.Held.first_due.Goals as goal
 
-pub planets-preserved : goal.planets-preserved
-planets-preserved c =
-    let held = c.args.self.now in
-    let before = c.planets.invariant in
-    let entry : Coord × PlanetCell = (c.in-Some.at.now, c.in-Some.cell.now) in
-    let step : c.planets.at-iterator ≡ entry ∷ c.next.new.self =
-    rest_more deref_pair c.planets.at-iterator c.next.new.self c.next.result (c.in-Some.at, c.in-Some.cell) c.in-Some.is c.next.ensures.steps in
-    let parts : before.0 ++ entry ∷ c.next.new.self ≡ held.planets.entries = ap (λ rest. before.0 ++ rest) (sym step) ∙ before.1 in
-    let found = holds_within (λ (e : Coord × PlanetCell). get place_order held.planets e.0 ≡ Some e.1) before.0 c.next.new.self held.planets.entries entry c.iter-at-items.ensures.found parts in (
-      before.0 ++ entry ∷ [],
-      append_assoc before.0 (entry ∷ []) c.next.new.self ∙ parts,
-      subst (IsFirstOf held c.args.moment (before.0 ++ entry ∷ [])) (ap (sooner_of c.planets.first) (sym c.owed.ensures) ∙ sym c.sooner-first.ensures)
-          (first_more held c.args.moment before.0 entry.0 entry.1 c.planets.first _ found refl before.2),
-    )
-
 pub returns-clause-due : goal.returns-clause-due
-returns-clause-due c =
-    let held = c.args.self.now in
-    let before = c.planets.invariant in
-    let none = rest_all deref_pair c.planets.at-iterator c.next.new.self c.next.result c.in-None.is c.next.ensures.steps in
-    let all : before.0 ≡ held.planets.entries = sym (append-nil before.0) ∙ ap (λ rest. before.0 ++ rest) (sym none) ∙ before.1 in
-    first_all held c.args.moment c.planets.first (subst (λ entries. IsFirstOf held c.args.moment entries c.planets.first) all before.2)
+returns-clause-due c = first_of_both c.args.self.now c.args.moment c.research_due.result c.planet_due.result c.sooner.result c.research_due.ensures c.planet_due.ensures (sym c.sooner.ensures)
 
 pub returns-clause-shown : goal.returns-clause-shown
-returns-clause-shown c = finds_first c.args.self.now c.args.moment c.planets.first (returns-clause-due c)
+returns-clause-shown c = finds_first c.args.self.now c.args.moment c.sooner.result (returns-clause-due c)

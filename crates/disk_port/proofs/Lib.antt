@@ -1,0 +1,5 @@
+pub mod Histories
+pub mod Moments
+pub mod Pairs
+pub mod Tearing
+pub mod Telling

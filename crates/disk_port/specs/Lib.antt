@@ -1,0 +1,10 @@
+pub mod Contents
+pub mod Disk
+pub mod History
+pub mod HistoryLaws
+pub mod Laws
+pub mod Memory
+pub mod Moments
+pub mod Pairs
+pub mod Silent
+pub mod Story

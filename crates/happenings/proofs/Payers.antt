@@ -1,0 +1,61 @@
+-- The planets that are to pay the items that wait.
+use Rattle.std.proofs.Common.{◌≡◌, ℕ, ◌≤◌, nat_le, true, ◌||◌, ◌&&◌, List, [], ◌∷◌, map, take, length, refl, ap, ◌∙◌, sym, subst, arith, Option, Some}
+use Rattle.std.proofs.lemmas.Bool.Decides.{nat_tests}
+use Rattle.std.proofs.lemmas.List.{take_all}
+use Rattle.std.specs.BTreeMap.{get}
+use Rattle.std.specs.Prelude.{option_map}
+use Rattle.std.specs.List.{list_any}
+use Rattle.account_cell.specs.Account.{research_item}
+use Rattle.account_cell.specs.declared.research_item.ResearchItem.{ResearchItem}
+use Rattle.base_ids.specs.Cells.{same_cell}
+use Rattle.base_ids.specs.declared.cell_id.CellId.{CellId}
+use Rattle.base_ids.specs.declared.cell_id.CellId.TheVariants.{Account as AccountId, Planet}
+use Rattle.base_ids.specs.declared.player.Player.{Player}
+use Rattle.closure.proofs.Sameness.{same_cell_swap}
+use Rattle.closure.specs.Closure.{AreBrought}
+use Rattle.closure.specs.Lists.{has}
+use Rattle.tick_model.specs.Events.{is_payer}
+use Rattle.tick_model.specs.Game.{research_brings}
+use Rattle.tick_model.specs.Universe.{Researches}
+use Rattle.tick_model.specs.Views.{View}
+use Rattle.happenings.specs.Held.{Stand, account_stand}
+use Rattle.happenings.specs.Orders.{player_order}
+use Rattle.happenings.specs.Sights.{AreAllPayers, is_payer_by, sees_held}
+use Rattle.happenings.specs.declared.held.AccountCell.{AccountCell}
+use Rattle.happenings.specs.declared.held.Held.{Held}
+
+-- the places at which items are paid
+abbrev pub payers_of : List ResearchItem → List CellId
+payers_of items = map (λ item. Planet item.at) items
+
+-- a cell is among them if it is the planet of an item
+pub has_payer : (items : List ResearchItem) (cell : CellId) → has (payers_of items) cell ≡ list_any (λ item. same_cell (Planet item.at) cell) items
+has_payer [] cell = refl
+has_payer (item ∷ later) cell = (λ i. same_cell_swap cell (Planet item.at) i || has_payer later cell i)
+
+waiting-payer : (player : Player) (items : List ResearchItem) (cell : CellId)
+    → list_any (λ item. same_cell (Planet item.at) cell) items ≡ is_payer Researches (map (research_item player) items) cell
+waiting-payer player [] cell = refl
+waiting-payer player (item ∷ later) cell = ap (λ b. same_cell (Planet item.at) cell || b) (waiting-payer player later cell)
+
+-- if the first item is done by the moment, these are the planets of all items behind it
+pub payers_all : (moment : ℕ) (items waiting : List ResearchItem) (first : ResearchItem) (cells : List CellId) (n : ℕ) → items ≡ first ∷ waiting → first.second ≤ moment
+    → length waiting ≤ n → cells ≡ payers_of (take n waiting) → AreAllPayers moment items cells
+payers_all moment items waiting first cells n parts done all are cell =
+    let yes : nat_le first.second moment ≡ true = grind (arith, nat_tests) in
+    ap (λ xs. has xs cell) are ∙ ap (λ xs. has (payers_of xs) cell) (take_all n waiting all) ∙ has_payer waiting cell
+    ∙ sym (ap (λ xs. is_payer_by moment xs cell) parts ∙ ap (λ b. b && list_any (λ item. same_cell (Planet item.at) cell) waiting) yes)
+
+-- they are what the research of an account brings
+pub payer_brought : (player : Player) (moment : ℕ) (items : List ResearchItem) (cell : CellId)
+    → is_payer_by moment items cell ≡ research_brings moment (map (research_item player) items) cell
+payer_brought player moment [] cell = refl
+payer_brought player moment (first ∷ waiting) cell = ap (λ b. nat_le first.second moment && b) (waiting-payer player waiting cell)
+
+pub account_brings : (held : Held) (id : CellId) (player : Player) (cell : AccountCell) (moment : ℕ) (cells : List CellId) → id ≡ AccountId player
+    → get player_order held.accounts player ≡ Some cell → AreAllPayers moment cell.account.research.items cells → AreBrought (sees_held held id) moment (Some cells)
+account_brings held id player cell moment cells is found all =
+    let here : sees_held held id ≡ Some (account_stand cell).seen =
+    ap (sees_held held) is ∙ ap (λ o. option_map (λ (s : Stand). s.seen) (option_map account_stand o)) found in
+    subst (λ (o : Option View). AreBrought o moment (Some cells)) (sym here)
+    (λ other. all other ∙ payer_brought cell.account.player moment cell.account.research.items other)

@@ -1,0 +1,27 @@
+use Rattle.std.proofs.Common.{◌≡◌, sym, refl, subst, Some}
+use Rattle.std.specs.Prelude.{IsSome}
+use Rattle.std.specs.BTreeMap.{get}
+use Rattle.happenings.specs.Orders.{player_order}
+use Rattle.happenings.specs.declared.held.Held.{Held}
+use Rattle.happenings.proofs.Numbered.{account_still_named, research_held}
+use Rattle.happenings.proofs.held.Held.number_research.Goals as goal
+
+pub returns-in-Some-clause-numbers : goal.returns-in-Some-clause-numbers
+returns-in-Some-clause-numbers c =
+    let old = c.args.self.now in
+    let player = c.args.player in
+    let now = c.number_research.new.self in
+    let found : get player_order old.accounts player ≡ Some c.in-Some.cell.now = sym c.in-Some.ensures.value in
+    let new : Held = record { accounts = c.get_mut.follows.lender now; planets = old.planets } in
+    let there : IsSome (get player_order old.accounts player) = subst IsSome (sym found) refl in
+    research_held old new player c.in-Some.cell.now now found ((c.get_mut.follows.holds now).3 there) refl c.args.number c.number_research.ensures.stand
+
+pub returns-in-Some-clause-named : goal.returns-in-Some-clause-named
+returns-in-Some-clause-named c =
+    let old = c.args.self.now in
+    let player = c.args.player in
+    let now = c.number_research.new.self in
+    let found : get player_order old.accounts player ≡ Some c.in-Some.cell.now = sym c.in-Some.ensures.value in
+    let new : Held = record { accounts = c.get_mut.follows.lender now; planets = old.planets } in
+    let there : IsSome (get player_order old.accounts player) = subst IsSome (sym found) refl in
+    account_still_named old new player c.in-Some.cell.now now found ((c.get_mut.follows.holds now).3 there) refl c.number_research.ensures.player

@@ -1,0 +1,35 @@
+use Rattle.std.proofs.Common.{◌≡◌, ◌∷◌, ◌++◌, [], ap, ◌∙◌, sym, refl, subst, append_assoc}
+use Rattle.std.proofs.lemmas.List.{append-nil}
+use Rattle.std.proofs.lemmas.Map.Iter.{rest_all, rest_more}
+use Rattle.std.specs.Map.Iter.{deref_pair}
+use Rattle.base_ids.specs.declared.coord.Coord.{Coord}
+use Rattle.happenings.specs.Due.{IsFirstOwed, sooner_of}
+use Rattle.happenings.specs.declared.held.PlanetCell.{PlanetCell}
+use Rattle.happenings.proofs.Firsts.{first_more}
+use Rattle.happenings.proofs.Keys.{holds_within}
+use Rattle.happenings.proofs.Owing.{planet_owes, planet_there, planets_first}
+use Rattle.happenings.proofs.held.Held.planet_due.Goals as goal
+
+pub planets-preserved : goal.planets-preserved
+planets-preserved c =
+    let held = c.args.self.now in
+    let owed = planet_owes c.args.moment in
+    let before = c.planets.invariant in
+    let entry : Coord × PlanetCell = (c.in-Some.at.now, c.in-Some.cell.now) in
+    let step : c.planets.at-iterator ≡ entry ∷ c.next.new.self =
+    rest_more deref_pair c.planets.at-iterator c.next.new.self c.next.result (c.in-Some.at, c.in-Some.cell) c.in-Some.is c.next.ensures.steps in
+    let parts : before.0 ++ entry ∷ c.next.new.self ≡ held.planets.entries = ap (λ rest. before.0 ++ rest) (sym step) ∙ before.1 in
+    let found = holds_within (planet_there held) before.0 c.next.new.self held.planets.entries entry c.iter-at-items.ensures.found parts in (
+      before.0 ++ entry ∷ [],
+      append_assoc before.0 (entry ∷ []) c.next.new.self ∙ parts,
+      subst (IsFirstOwed owed (planet_there held) (before.0 ++ entry ∷ [])) (ap (sooner_of c.planets.first) (sym c.owed.ensures) ∙ sym c.sooner-first.ensures)
+          (first_more owed (planet_there held) before.0 entry c.planets.first _ found refl before.2),
+    )
+
+pub returns : goal.returns
+returns c =
+    let held = c.args.self.now in
+    let before = c.planets.invariant in
+    let none = rest_all deref_pair c.planets.at-iterator c.next.new.self c.next.result c.in-None.is c.next.ensures.steps in
+    let all : before.0 ≡ held.planets.entries = sym (append-nil before.0) ∙ ap (λ rest. before.0 ++ rest) (sym none) ∙ before.1 in
+    planets_first held c.args.moment c.planets.first (subst (λ entries. IsFirstOwed (planet_owes c.args.moment) (planet_there held) entries c.planets.first) all before.2)

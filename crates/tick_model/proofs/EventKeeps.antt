@@ -1,0 +1,142 @@
+-- An event keeps the rules, and lowers how many can still come.
+use Rattle.std.proofs.Common.{◌≡◌, ℕ, ◌+◌, ◌<◌, ◌≤◌, inl, inr, Bool, true, false, not, cond, ◌&&◌, List, [], ◌∷◌, ◌++◌, length, filter, arith, refl, ap, ◌∙◌, sym, subst}
+use Rattle.std.proofs.lemmas.List.Sums.{sum_by-append, sum_by-cons}
+use Rattle.base_ids.specs.Cells.{same_cell}
+use Rattle.base_ids.specs.declared.cell_id.CellId.{CellId}
+use Rattle.base_ids.specs.declared.cell_id.CellId.TheVariants.{Planet}
+use Rattle.catalog.specs.Kinds.{place_in}
+use Rattle.catalog.specs.declared.classes.TheConstants.{UNIT_KINDS}
+use Rattle.catalog.specs.declared.kind.Kind.{Kind}
+use Rattle.laziness.proofs.Bringing.{test, never}
+use Rattle.tick_model.specs.Events.{Event, item_due, Owes, effect, home}
+use Rattle.tick_model.specs.Game.{events_left}
+use Rattle.tick_model.specs.Rules.{AreDistinct, IsBatch, IsIn, IsPlaced, KeepsRules, queue_cell, same_order}
+use Rattle.tick_model.specs.Universe.{QueueClass, Buildings, Researches, Yard, Item, Setting, State, same_class}
+use Rattle.tick_model.specs.Views.{queue_in, stands_in, view}
+use Rattle.tick_model.proofs.Effects.{StandsBy, after, came_queue, effect-is, event-ends, event-stays, other-queue, queue-after, seen_of}
+use Rattle.tick_model.proofs.Follows.{IsOrderOf, follows-distinct, follows-in, order-itself, same-order}
+use Rattle.tick_model.proofs.Lists.{and-is, cell-is, class-is, distinct-append, distinct-filter, distinct-one, fails, from-filter, in-append, not-true}
+use Rattle.tick_model.proofs.Queues.{queued}
+use Rattle.tick_model.proofs.Staying.{placed-still, stay-kinds, stay-listed, stay-owned}
+
+-- an order in place of another is in the queue of the right cell too
+some-batch : (class : QueueClass) (old new : Item) → IsOrderOf old new → IsBatch class old → IsBatch class new
+some-batch Buildings old new order batch = tt
+some-batch Researches old new order batch = tt
+some-batch Yard old new order batch =
+    (order.some batch.0, subst (λ (k : Kind). place_in UNIT_KINDS k < length UNIT_KINDS) (sym order.kind) batch.1)
+
+pub placed-order : (state : State) (old new : Item) → IsOrderOf old new → IsPlaced state old → IsPlaced state new
+placed-order state old new order placed = record {
+  planet = placed.planet;
+  stands = ap (λ at. state.own (Planet at)) order.place ∙ placed.stands;
+  cell = order.cell ∙ placed.cell ∙ (λ i. queue_cell (sym order.class i) (sym order.place i) placed.planet.owner);
+  batch = subst (λ c. IsBatch c new) (sym order.class) (some-batch old.class old new order placed.batch);
+}
+
+module _ (setting : Setting) (state : State) (class : QueueClass) (item : Item) (later : List Item) (fine : KeepsRules setting state) (stands : StandsBy state class item later) where
+  -- an item of the new state is one of the old one, or was ordered by one of them
+  after-in : (x : Item) → IsIn x (after setting class item later state).items → (old : Item) × IsIn old state.items × IsOrderOf old x
+  after-in x has =
+      let kept = λ (y : Item). not (stands_in item.cell class y) in
+      let queue = came_queue setting.rules (item_due class item later) (seen_of setting (item_due class item later) state) in
+      elim (in-append x (filter kept state.items) queue has) [
+        | inl other ↦ (x, (from-filter kept x state.items other).0, order-itself x)
+        | inr new ↦
+            (let found = follows-in (item ∷ later) queue (event-ends setting state class item later fine stands).follows x new in
+            (found.0, (queued state class item.cell item later stands found.0 found.1).within, found.2))
+      ]
+
+  -- an item of another queue is of another class or has another number than the items of the new queue
+  after-apart : (a b : Item) → IsIn a state.items → stands_in item.cell class a ≡ false
+      → IsIn b (came_queue setting.rules (item_due class item later) (seen_of setting (item_due class item later) state)) → same_order a b ≡ false
+  after-apart a b has_a other has_b =
+      let queue = came_queue setting.rules (item_due class item later) (seen_of setting (item_due class item later) state) in
+      let found = follows-in (item ∷ later) queue (event-ends setting state class item later fine stands).follows b has_b in
+      let old = queued state class item.cell item later stands found.0 found.1 in
+      fails (same_order a b) (λ same.
+      let one = distinct-one state.items a found.0 fine.distinct has_a old.within (sym (same-order found.0 b found.2 a) ∙ same) in
+      never (stands_in item.cell class a) (ap (stands_in item.cell class) one ∙ old.there) other)
+
+  after-distinct : AreDistinct (after setting class item later state).items
+  after-distinct =
+      let queue = came_queue setting.rules (item_due class item later) (seen_of setting (item_due class item later) state) in
+      let kept = λ (y : Item). not (stands_in item.cell class y) in
+      let follows = (event-ends setting state class item later fine stands).follows in
+      let there = subst AreDistinct stands (distinct-filter (stands_in item.cell class) state.items fine.distinct) in
+      let apart : (a b : Item) → IsIn a (filter kept state.items) → IsIn b queue → same_order a b ≡ false = λ a b has_a has_b.
+      let first = from-filter kept a state.items has_a in
+      after-apart a b first.0 (not-true (stands_in item.cell class a) first.1) has_b in
+      distinct-append (filter kept state.items) queue (distinct-filter kept state.items fine.distinct) (follows-distinct (item ∷ later) queue follows there) apart
+
+  after-paced : (cell : CellId) (batch : Item) (rest : List Item) → queue_in (after setting class item later state).items cell Yard ≡ batch ∷ rest → 1 ≤ batch.unit_seconds
+  after-paced cell batch rest is =
+      let items = (after setting class item later state).items in
+      elim (test (same_cell item.cell cell && same_class class Yard)) [
+        | inl here ↦
+            (let both = and-is (same_cell item.cell cell) (same_class class Yard) here in
+            let place = cell-is item.cell cell both.0 in
+            let sort = class-is class Yard both.1 in
+            let queue = sym (queue-after setting state class item later fine stands) ∙ (λ i. queue_in items (place i) (sort i)) ∙ is in
+            (event-ends setting state class item later fine stands).paced batch rest queue sort)
+        | inr apart ↦ fine.paced cell batch rest (sym (other-queue setting state class item later cell Yard fine stands apart) ∙ is)
+      ]
+
+  after-keeps : KeepsRules setting (after setting class item later state)
+  after-keeps =
+      let new = after setting class item later state in
+      let stay = event-stays setting state class item later in
+      record {
+        listed = stay-listed setting new.own state stay fine;
+        owned = stay-owned setting new.own state stay fine;
+        kinds = stay-kinds setting new.own state stay fine;
+        placed = λ x has.
+            let found = after-in x has in
+            placed-order new found.0 x found.2 (placed-still state new found.0 stay (fine.placed found.0 found.1));
+        drawn = λ x has.
+            let found = after-in x has in
+            let same = found.2.number in
+            let low = fine.drawn found.0 found.1 in
+            omega (arith, same, low);
+        distinct = after-distinct;
+        paced = after-paced;
+      }
+
+-- the rules are kept
+pub event-keeps : (setting : Setting) (state : State) (event : Event) → Owes (view setting.cells state (home event)) event → KeepsRules setting state
+    → KeepsRules setting (effect setting event state)
+event-keeps setting state (item_due class item later) stands fine =
+    subst (KeepsRules setting) (sym (effect-is setting class item later state)) (after-keeps setting state class item later fine stands)
+
+-- Events that can still come, of the items of a queue and of all others.
+
+part-yes : (p : Item → Bool) (x : Item) (a b c : ℕ) → a ≡ b + c → (1 + x.left) + a ≡ ((1 + x.left) + b) + c
+part-yes p x a b c same = omega (arith, same)
+
+part-no : (p : Item → Bool) (x : Item) (a b c : ℕ) → a ≡ b + c → (1 + x.left) + a ≡ b + ((1 + x.left) + c)
+part-no p x a b c same = omega (arith, same)
+
+pub left-parts : (p : Item → Bool) (items : List Item) → events_left items ≡ events_left (filter p items) + events_left (filter (λ x. not (p x)) items)
+left-parts p [] = refl
+left-parts p (x ∷ items) =
+    let rest = left-parts p items in
+    let f = λ (y : Item). 1 + y.left in
+    let yes = filter p items in
+    let no = filter (λ y. not (p y)) items in
+    sum_by-cons f x items ∙ elim (p x) as (λ b. (1 + x.left) + events_left items ≡ events_left (cond b (x ∷ yes) yes) + events_left (cond (not b) (x ∷ no) no)) [
+      | true ↦ part-yes p x (events_left items) (events_left yes) (events_left no) rest ∙ ap (λ n. n + events_left no) (sym (sum_by-cons f x yes))
+      | false ↦ part-no p x (events_left items) (events_left yes) (events_left no) rest ∙ ap (λ n. events_left yes + n) (sym (sum_by-cons f x no))
+    ]
+
+-- fewer can come after it
+pub event-falls : (setting : Setting) (state : State) (event : Event) → KeepsRules setting state → Owes (view setting.cells state (home event)) event
+    → events_left (effect setting event state).items < events_left state.items
+event-falls setting state (item_due class item later) fine stands =
+    let queue = came_queue setting.rules (item_due class item later) (seen_of setting (item_due class item later) state) in
+    let others = filter (λ (x : Item). not (stands_in item.cell class x)) state.items in
+    let all = left-parts (stands_in item.cell class) state.items in
+    let gone : events_left (filter (stands_in item.cell class) state.items) ≡ events_left (item ∷ later) = ap events_left stands in
+    let less = (event-ends setting state class item later fine stands).falls in
+    let both = sum_by-append (λ (x : Item). 1 + x.left) others queue in
+    let new : events_left (effect setting (item_due class item later) state).items ≡ events_left (others ++ queue) = ap (λ new. events_left new.items) (effect-is setting class item later state) in
+    omega (arith, all, gone, less, both, new)
