@@ -309,7 +309,10 @@ fn a_line_without_a_reading_reads_the_clock_once(rt: HostRuntime) -> Result<(), 
 fn an_account_is_told_at_the_reading_of_the_clock(rt: HostRuntime) -> Result<(), Fail> {
     let (status, sink, clock) = answers_at(rt.alloc(), b"1 account\r\n", &[3600])?;
     assert_eq!(rt; status, DONE);
-    assert_eq!(rt; sink.written(), b"ok 1 3600\naccount 1 0 0 1\nplanet 1:1:1\n.\n".as_slice());
+    assert_eq!(rt;
+        sink.written(),
+        b"ok 1 3600\naccount 1 0 0 1\nplanet 1:1:1\n.\n".as_slice()
+    );
     assert_eq!(rt; clock.count, 1);
     Ok(())
 }

@@ -34,7 +34,9 @@ energy 0 0\ndebris 0 0\nlevel shipyard 1\nlevel lab 1\nunits launcher 2\n.\n",
 }
 
 #[test]
-fn research_whose_planet_became_too_poor_is_dropped_and_the_next_starts(rt: HostRuntime) -> Result<(), Fail> {
+fn research_whose_planet_became_too_poor_is_dropped_and_the_next_starts(
+    rt: HostRuntime,
+) -> Result<(), Fail> {
     let case: Played = (
         b"planet 1:1:2 1 40 163\nstock 1:1:1 0 800 400\nstock 1:1:2 0 500 600\nlevel 1:1:1 lab 1\nlevel 1:1:2 lab 1\n",
         b"@0 1 research 1:1:1 energy\n@0 1 research 1:1:1 computer\n@0 1 research 1:1:2 computer\n\

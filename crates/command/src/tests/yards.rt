@@ -30,7 +30,8 @@ fn one_unit_too_many_has_17(rt: HostRuntime) -> Result<(), Fail> {
 
 /// A universe at speed 100 with 100000 launchers to build, one a second; the answers at the last second but one and 10^9 seconds
 /// later.
-const MANY_LAUNCHERS: &[u8] = b"universe 7 100 1000 0\nplayer 1\nplanet 1:1:1 1 40 163\nlevel 1:1:1 shipyard 14\nlevel 1:1:1 nanite 8\n\
+const MANY_LAUNCHERS: &[u8] =
+    b"universe 7 100 1000 0\nplayer 1\nplanet 1:1:1 1 40 163\nlevel 1:1:1 shipyard 14\nlevel 1:1:1 nanite 8\n\
 stock 1:1:1 200000000 0 0\n.\n@0 1 yard 1:1:1 launcher 100000\n@99999 1 planet 1:1:1\n@1000099999 1 planet 1:1:1\n";
 
 #[test]
