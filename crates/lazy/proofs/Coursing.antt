@@ -7,7 +7,7 @@ use Rattle.std.specs.declared.result.Result.TheVariants.{Ok, Err}
 use Rattle.base_ids.specs.declared.cell_id.CellId.{CellId}
 use Rattle.laziness.proofs.Bringing.{early}
 use Rattle.laziness.specs.Laws.{IsNext, NoneDue}
-use Rattle.laziness.specs.Stamps.{AgreeStamped, Stamps, bring_to, brought, event_acts}
+use Rattle.laziness.specs.Stamps.{AgreeStamped, Stamps, bring_to, brought, event_acts, happened}
 use Rattle.laziness.specs.Theorems.{CanBring}
 use Rattle.ports.specs.declared.clock.TheConstants.{LATEST}
 use Rattle.happenings.specs.Applying.{CanHappen}
@@ -38,24 +38,31 @@ pub if-both : {T E : Type 0} (r : Result T E) (P Q R : T → Type 0) → ((x : T
 if-both (Ok x) P Q R f p q = f x p q
 if-both (Err e) P Q R f p q = tt
 
--- The cells show a universe from which the same comes to them as from this one.
-pub record LeadsOn (setting : Setting) (S : CellId → Bool) (moment : ℕ) (f : Stamps (game setting)) (now : Held) : Type 0 where
+-- How what comes of two universes has to agree: it is the same, or it is the same of these cells once they are brought to the moment.
+abbrev pub Agreement : Type 1
+Agreement = (setting : Setting) → (CellId → Bool) → ℕ → Stamps (game setting) → Stamps (game setting) → Type 0
+
+abbrev pub AreEqual : Agreement
+AreEqual setting S moment one other = one ≡ other
+
+abbrev pub AgreeThen : Agreement
+AgreeThen setting S moment one other = AgreeStamped (game setting) S (bring_to (game setting) S moment one) (bring_to (game setting) S moment other)
+
+-- The cells show a universe, and what comes of it agrees with what comes of this one.
+pub record LeadsOn (Agree : Agreement) (setting : Setting) (S : CellId → Bool) (moment : ℕ) (f : Stamps (game setting)) (now : Held) : Type 0 where
   pub stamps : Stamps (game setting)
   pub shows : Shows setting now stamps
   pub can_bring : CanBring (game setting) S moment stamps
-  pub rest : AgreeStamped (game setting) S (brought (game setting) S moment stamps) (brought (game setting) S moment f)
+  pub rest : Agree setting S moment (happened (game setting) S moment stamps) (happened (game setting) S moment f)
 
 -- It does so for each universe in which the cells can be brought to the moment.
-pub record Courses (kept : Rules) (held : Held) (moment : ℕ) (now : Held) : Type 0 where
+pub record Courses (Agree : Agreement) (kept : Rules) (held : Held) (moment : ℕ) (now : Held) : Type 0 where
   pub named : IsNamed now
   pub same : HoldsSame held now
-  pub leads : (setting : Setting) (f : Stamps (game setting)) → CanAdvance setting kept held moment f → LeadsOn setting (holds held) moment f now
+  pub leads : (setting : Setting) (f : Stamps (game setting)) → CanAdvance setting kept held moment f → LeadsOn Agree setting (holds held) moment f now
 
 pub shows-equal : (setting : Setting) (old new : Held) (f : Stamps (game setting)) → IsEqual old new → Shows setting old f → Shows setting new f
 shows-equal setting old new f equal shows cell = subst (λ (o : Option Stand). IfSome o (ShowsCell setting f cell)) (sym (equal cell)) (shows cell)
-
-agree-itself : (setting : Setting) (S : CellId → Bool) (f : Stamps (game setting)) → AgreeStamped (game setting) S f f
-agree-itself setting S f = record { view = λ x inside. refl; at = λ x inside. refl }
 
 agree-then : (setting : Setting) (S : CellId → Bool) (f g h : Stamps (game setting)) → AgreeStamped (game setting) S f g → AgreeStamped (game setting) S g h → AgreeStamped (game setting) S f h
 agree-then setting S f g h one two = record { view = λ x inside. one.view x inside ∙ two.view x inside; at = λ x inside. one.at x inside ∙ two.at x inside }
@@ -81,12 +88,19 @@ mapped-some f None = refl
 mapped-some f (Some stand) = refl
 
 -- copies begin the course
-pub course-starts : (kept : Rules) (held now : Held) (moment : ℕ) → IsEqual held now → IsNamed now → Courses kept held moment now
-course-starts kept held now moment equal named = record {
+course-starts : (Agree : Agreement) → ((setting : Setting) (S : CellId → Bool) (moment : ℕ) (f : Stamps (game setting)) → Agree setting S moment f f)
+    → (kept : Rules) (held now : Held) (moment : ℕ) → IsEqual held now → IsNamed now → Courses Agree kept held moment now
+course-starts Agree itself kept held now moment equal named = record {
   named = named;
   same = λ cell. ap is_some (equal cell);
-  leads = λ setting f can. record { stamps = f; shows = shows-equal setting held now f equal can.shows; can_bring = can.can_bring; rest = agree-itself setting (holds held) (brought (game setting) (holds held) moment f) };
+  leads = λ setting f can. record { stamps = f; shows = shows-equal setting held now f equal can.shows; can_bring = can.can_bring; rest = itself setting (holds held) moment (happened (game setting) (holds held) moment f) };
 }
+
+pub starts-equal : (kept : Rules) (held now : Held) (moment : ℕ) → IsEqual held now → IsNamed now → Courses AreEqual kept held moment now
+starts-equal = course-starts AreEqual (λ setting S moment f. refl)
+
+pub starts-alike : (kept : Rules) (held now : Held) (moment : ℕ) → IsEqual held now → IsNamed now → Courses AgreeThen kept held moment now
+starts-alike = course-starts AgreeThen (λ setting S moment f. record { view = λ x inside. refl; at = λ x inside. refl })
 
 -- a cell that shows a universe stands no later than an event that the universe's cell stands no later than
 stand-by : (setting : Setting) (g : Stamps (game setting)) (cell : CellId) (second due : ℕ) (o : Option Stand) → g.at cell ≤ second → second ≡ due → IfSome o (ShowsCell setting g cell)
@@ -94,7 +108,7 @@ stand-by : (setting : Setting) (g : Stamps (game setting)) (cell : CellId) (seco
 stand-by setting g cell second due None timely is shown = tt
 stand-by setting g cell second due (Some stand) timely is shown = let stamp : stand.second ≡ g.at cell = shown.second in omega (arith, stamp, timely, is)
 
-module _ (kept : Rules) (held now : Held) (moment : ℕ) (course : Courses kept held moment now) where
+module _ (Agree : Agreement) (kept : Rules) (held now : Held) (moment : ℕ) (course : Courses Agree kept held moment now) where
   -- the same set of cells
   set-is : holds now ≡ holds held
   set-is = fun_ext course.same
@@ -102,7 +116,7 @@ module _ (kept : Rules) (held now : Held) (moment : ℕ) (course : Courses kept 
   -- the first event happens
   module _ (due : Due) (finds : FindsFirst now moment (Some due)) where
     lead-next : (new : Held) → ActsIn kept due now new → (setting : Setting) (f : Stamps (game setting)) → CanAdvance setting kept held moment f
-        → LeadsOn setting (holds held) moment f new
+        → LeadsOn Agree setting (holds held) moment f new
     lead-next new acts setting f can =
         let M = game setting in
         let lead = course.leads setting f can in
@@ -114,7 +128,7 @@ module _ (kept : Rules) (held now : Held) (moment : ℕ) (course : Courses kept 
           stamps = event_acts M event lead.stamps;
           shows = acts setting lead.stamps first.item first.later can.rules lead.shows lead.can_bring.fine first.owed (λ cell needed. course.same cell ∙ after.inside cell needed);
           can_bring = after.still;
-          rest = subst (λ h. AgreeStamped M (holds held) (bring_to M (holds held) moment h) (brought M (holds held) moment f)) (sym after.rest) lead.rest;
+          rest = subst (λ h. Agree setting (holds held) moment h (happened M (holds held) moment f)) (sym after.rest) lead.rest;
         }
 
     -- the first event can happen
@@ -146,12 +160,46 @@ module _ (kept : Rules) (held now : Held) (moment : ℕ) (course : Courses kept 
         waiting_falls setting lead.stamps now new due first.item first.later lead.shows lead.can_bring.fine first.owed
         (acts setting lead.stamps first.item first.later can.rules lead.shows lead.can_bring.fine first.owed (λ cell needed. course.same cell ∙ inside cell needed)) same held course.same
 
-    pub course-goes-on : (new : Held) → ActsIn kept due now new → IsNamed new → HoldsSame now new → Courses kept held moment new
+    pub course-goes-on : (new : Held) → ActsIn kept due now new → IsNamed new → HoldsSame now new → Courses Agree kept held moment new
     course-goes-on new acts named same = record {
       named = named;
       same = λ cell. same cell ∙ course.same cell;
       leads = lead-next new acts;
     }
+
+  -- no event is due any more
+  ended : (setting : Setting) (f : Stamps (game setting)) (lead : LeadsOn Agree setting (holds held) moment f now) → FindsFirst now moment None
+      → happened (game setting) (holds held) moment lead.stamps ≡ lead.stamps
+  ended setting f lead finds =
+      let M = game setting in
+      let none = subst (λ (S : CellId → Bool). NoneDue M S moment lead.stamps.universe) set-is (finds setting lead.stamps lead.shows course.named) in
+      (game_cells setting).none (holds held) moment lead.stamps lead.can_bring.fine none
+
+  -- no cell stands later than the moment
+  pub course-behind : (setting : Setting) (f : Stamps (game setting)) → CanAdvance setting kept held moment f → AreBehind moment now
+  course-behind setting f can cell =
+      let lead = course.leads setting f can in
+      stand-behind lead.stamps (held_at now cell) refl (lead.shows cell) lead.can_bring.behind
+    where
+      stand-behind : (g : Stamps (game setting)) (o : Option Stand) → held_at now cell ≡ o → IfSome o (ShowsCell setting g cell)
+          → ((x : CellId) → holds held x ≡ true → g.at x ≤ moment) → IfSome o (λ stand. stand.second ≤ moment)
+      stand-behind g None is shown behind = tt
+      stand-behind g (Some stand) is shown behind =
+          let inside : holds held cell ≡ true = sym (course.same cell) ∙ ap is_some is in
+          let within : g.at cell ≤ moment = behind cell inside in
+          let stamp : stand.second ≡ g.at cell = shown.second in
+          omega arith
+
+-- the cells show what has happened, once no event is due any more
+pub course-ends : (kept : Rules) (held now : Held) (moment : ℕ) → Courses AreEqual kept held moment now → FindsFirst now moment None
+    → (setting : Setting) (f : Stamps (game setting)) → CanAdvance setting kept held moment f → Shows setting now (happened (game setting) (holds held) moment f)
+course-ends kept held now moment course finds setting f can =
+    let lead = course.leads setting f can in
+    subst (Shows setting now) (sym (ended AreEqual kept held now moment course setting f lead finds) ∙ lead.rest) lead.shows
+
+module _ (kept : Rules) (held now : Held) (moment : ℕ) (course : Courses AgreeThen kept held moment now) where
+  same-set : holds now ≡ holds held
+  same-set = fun_ext course.same
 
   -- the yards build on alone
   module _ (new : Held) (runs : YardsRun kept moment now new) where
@@ -181,7 +229,7 @@ module _ (kept : Rules) (held now : Held) (moment : ℕ) (course : Courses kept 
               let now_is : run_before kept limit stand ≡ stand_in setting h x = (λ i. run_before (sym rules i) limit (same i)) ∙ sym (ran x inside) in
               record { second = ap (λ (s : Stand). s.second) now_is; seen = ap (λ (s : Stand). s.seen) now_is }
 
-    lead-run : (setting : Setting) (f : Stamps (game setting)) → CanAdvance setting kept held moment f → LeadsOn setting (holds held) moment f new
+    lead-run : (setting : Setting) (f : Stamps (game setting)) → CanAdvance setting kept held moment f → LeadsOn AgreeThen setting (holds held) moment f new
     lead-run setting f can =
         let M = game setting in
         let S = holds held in
@@ -210,37 +258,21 @@ module _ (kept : Rules) (held now : Held) (moment : ℕ) (course : Courses kept 
     run-same : HoldsSame now new
     run-same cell = ap is_some (runs cell) ∙ mapped-some (run_before kept limit) (held_at now cell)
 
-    pub course-runs : IsNamed new → Courses kept held moment new
+    pub course-runs : IsNamed new → Courses AgreeThen kept held moment new
     course-runs named = record {
       named = named;
       same = λ cell. run-same cell ∙ course.same cell;
       leads = lead-run;
     }
 
-  -- No event is due any more. So cells that gained from here on are brought to the moment.
+  -- once no event is due any more, cells that gained from here on are brought to the moment
   pub course-advances : FindsFirst now moment None → (after : Held) → Gains kept moment now after → GainsIn kept moment now after → AdvancesIn kept held moment after
   course-advances finds after gains gains_in setting f can =
       let M = game setting in
       let S = holds held in
       let lead = course.leads setting f can in
-      let none = subst (λ (T : CellId → Bool). NoneDue M T moment lead.stamps.universe) set-is (finds setting lead.stamps lead.shows course.named) in
-      let end = (game_cells setting).none S moment lead.stamps lead.can_bring.fine none in
-      let shown : Shows setting after (bring_to M S moment lead.stamps) = subst (λ (T : CellId → Bool). Shows setting after (bring_to M T moment lead.stamps)) set-is (gains_in setting lead.stamps can.rules lead.shows) in
+      let end = ended AgreeThen kept held now moment course setting f lead finds in
+      let shown : Shows setting after (bring_to M S moment lead.stamps) = subst (λ (T : CellId → Bool). Shows setting after (bring_to M T moment lead.stamps)) same-set (gains_in setting lead.stamps can.rules lead.shows) in
       let come : Shows setting after (brought M S moment lead.stamps) = subst (λ h. Shows setting after (bring_to M S moment h)) (sym end) shown in
       shows-agree setting S (brought M S moment lead.stamps) (brought M S moment f) after lead.rest
       (λ cell there. sym (ap is_some (gains cell) ∙ mapped-some (gained kept moment) (held_at now cell) ∙ course.same cell) ∙ there) come
-
-  -- no cell stands later than the moment
-  pub course-behind : (setting : Setting) (f : Stamps (game setting)) → CanAdvance setting kept held moment f → AreBehind moment now
-  course-behind setting f can cell =
-      let lead = course.leads setting f can in
-      stand-behind lead.stamps (held_at now cell) refl (lead.shows cell) lead.can_bring.behind
-    where
-      stand-behind : (g : Stamps (game setting)) (o : Option Stand) → held_at now cell ≡ o → IfSome o (ShowsCell setting g cell)
-          → ((x : CellId) → holds held x ≡ true → g.at x ≤ moment) → IfSome o (λ stand. stand.second ≤ moment)
-      stand-behind g None is shown behind = tt
-      stand-behind g (Some stand) is shown behind =
-          let inside : holds held cell ≡ true = sym (course.same cell) ∙ ap is_some is in
-          let within : g.at cell ≤ moment = behind cell inside in
-          let stamp : stand.second ≡ g.at cell = shown.second in
-          omega arith
