@@ -13,3 +13,7 @@ pub mod Counted
 pub mod Answering
 pub mod Ending
 pub mod Samples
+pub mod Turns
+pub mod Units
+pub mod Alone
+pub mod Yards

@@ -1,5 +1,5 @@
 -- The events that the queues of cells which are held still bring, of which each event takes one away.
-use Rattle.std.proofs.Common.{◌≡◌, ℕ, ◌+◌, ◌<◌, ◌≤◌, Bool, true, false, cond, List, [], ◌∷◌, ◌||◌, ◌&&◌, refl, ap, ◌∙◌, sym, subst, arith, inl, inr, Option, Some, None}
+use Rattle.std.proofs.Common.{◌≡◌, ℕ, ◌+◌, ◌-◌, ◌<◌, ◌≤◌, Bool, true, false, cond, List, [], ◌∷◌, ◌||◌, ◌&&◌, refl, ap, ◌∙◌, sym, subst, arith, inl, inr, Option, Some, None}
 use Rattle.std.specs.Prelude.{is_some, option_map}
 use Rattle.base_ids.specs.Cells.{same_cell}
 use Rattle.base_ids.specs.declared.cell_id.CellId.{CellId}
@@ -14,16 +14,18 @@ use Rattle.happenings.specs.Sights.{names_held}
 use Rattle.happenings.specs.declared.due.Due.{Due}
 use Rattle.happenings.specs.declared.held.Held.{Held}
 use Rattle.happenings.proofs.Acting.{held-seen, owed-there, queue-inside}
-use Rattle.tick_model.specs.Events.{Event, Owes, effect, footprint, item_due}
+use Rattle.tick_model.specs.Events.{Event, effect, footprint, item_due}
 use Rattle.tick_model.specs.Game.{events_left, game}
 use Rattle.tick_model.specs.Rules.{KeepsRules}
-use Rattle.tick_model.specs.Universe.{Buildings, Researches, Yard, Item, QueueClass, Setting, State, same_class}
-use Rattle.tick_model.specs.Views.{View, nothing_seen, queue_in, view}
+use Rattle.tick_model.specs.Universe.{Buildings, Researches, Yard, Item, Own, QueueClass, Setting, State, of_account, of_nothing, of_planet, same_class}
+use Rattle.tick_model.specs.Views.{View, nothing_seen, queue_in}
 use Rattle.tick_model.specs.declared.rules.Rules.{Rules}
 use Rattle.tick_model.proofs.Effects.{StandsBy, effect-is, event-ends, other-queue, queue-after}
 use Rattle.tick_model.proofs.Gains.{advance-keeps}
 use Rattle.tick_model.proofs.Lists.{and-is, cell-is, class-is}
 use Rattle.lazy.specs.Planning.{HoldsSame}
+use Rattle.lazy.specs.Running.{YardsRun, first_turn, is_running, ran, run_before, run_until}
+use Rattle.lazy.proofs.Units.{ticks-no-more}
 
 -- the events that the queues of a cell still bring
 abbrev pub waiting : View → ℕ
@@ -88,6 +90,32 @@ module _ (old new : Held) (name : CellId) (class : QueueClass) (fewer : AreFewer
             let less = falls cells among in
             omega (arith, here, less))
       ]
+
+-- Yards that run bring no more events.
+
+ran-no-more : (rules : Rules) (from until : ℕ) (own : Own) (batches : List Item) → events_left (ran rules from until own batches).queue ≤ events_left batches
+ran-no-more rules from until (of_planet planet) batches = ticks-no-more rules.speed from (until - from) (record { planet = planet; queue = batches })
+ran-no-more rules from until of_nothing batches = omega arith
+ran-no-more rules from until (of_account account) batches = omega arith
+
+run-no-more : (rules : Rules) (limit : ℕ) (o : Option Stand) → waiting (seen_of (option_map (run_before rules limit) o)) ≤ waiting (seen_of o)
+run-no-more rules limit None = omega arith
+run-no-more rules limit (Some stand) =
+    let batches = stand.seen.queue Yard in
+    let less = ran-no-more rules stand.second (limit - 1) stand.seen.own batches in
+    elim (is_running limit stand.second batches) as (λ b. waiting (cond b (run_until rules (limit - 1) stand) stand).seen ≤ waiting stand.seen) [
+      | true ↦ omega (arith, less)
+      | false ↦ omega arith
+    ]
+
+pub runs_no_more : (rules : Rules) (moment : ℕ) (old new : Held) → YardsRun rules moment old new → (cells : List CellId) → waiting_in new cells ≤ waiting_in old cells
+runs_no_more rules moment old new runs [] = omega arith
+runs_no_more rules moment old new runs (cell ∷ cells) =
+    let limit = first_turn old (moment + 1) (names_held old) in
+    let here : waiting (seen_held new cell) ≤ waiting (seen_held old cell) =
+    subst (λ (o : Option Stand). waiting (seen_of o) ≤ waiting (seen_held old cell)) (sym (runs cell)) (run-no-more rules limit (held_at old cell)) in
+    let rest = runs_no_more rules moment old new runs cells in
+    omega (arith, here, rest)
 
 -- An event leaves its queue with fewer, and the others as they are.
 module _ (setting : Setting) (u : State) (class : QueueClass) (item : Item) (later : List Item) (fine : KeepsRules setting u) (stands : StandsBy u class item later) where

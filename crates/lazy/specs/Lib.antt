@@ -1,4 +1,5 @@
 pub mod Planning
+pub mod Running
 pub mod Advancing
 pub mod Taking
 pub mod Plans

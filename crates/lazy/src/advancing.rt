@@ -7,12 +7,15 @@ ghost use Rattle.ports.specs.declared.clock.TheConstants.{LATEST};
 ghost use Rattle.tick_model.specs.Game.{game};
 ghost use Rattle.tick_model.specs.Universe.{Setting};
 
+use crate::running::run_yards;
 use happenings::{Held, apply};
 use std::alloc::{AllocError, Global};
 use tick_model::Rules;
 
 /// Copies of the cells, brought to a moment of at most 2^40 − 1 seconds: the events that they owe by then happen, the first one
 /// first, and then each cell gains until the moment. It fails only if memory runs out.
+///
+/// After each event the yards build on alone until another event has its turn.
 pub fn advance(alloc: Global, rules: &Rules, cells: &Held, moment: u64) -> Result<Held, AllocError>
     requires can { (setting : Setting) × (f : Stamps (game setting)) × CanAdvance setting rules.now cells.now moment f }
     requires named { IsNamed cells.now }
@@ -25,6 +28,7 @@ pub fn advance(alloc: Global, rules: &Rules, cells: &Held, moment: u64) -> Resul
     let mut copies = cells.copy(alloc)?;
     'events: while let Some(due) = copies.first_due(moment) {
         apply(&mut copies, rules, due)?;
+        run_yards(alloc, &mut copies, rules, moment)?;
     }
     copies.gained(alloc, rules, moment)
 }

@@ -5,6 +5,7 @@ mod advancing;
 mod beginning;
 mod dumping;
 mod planning;
+mod running;
 mod universe;
 
 pub use advancing::advance;

@@ -2,6 +2,7 @@
 ghost use Rattle.std.specs.Prelude.{◌≡◌, ◌≤◌, [], ◌∷◌, true, IfOk, length, sum};
 ghost use Rattle.base_bytes.specs.Sound.{IsSound};
 ghost use Rattle.base_ids.specs.Order.{coord_before};
+ghost use Rattle.catalog.specs.declared.amounts.TheConstants.{CAP};
 ghost use Rattle.catalog.specs.declared.classes.TheConstants.{UNIT_KINDS};
 ghost use Rattle.ports.specs.declared.clock.TheConstants.{LATEST};
 ghost use Rattle.lazy.specs.Keeping.{KeepsSome};
@@ -28,8 +29,9 @@ const MINE: Building = Building {
     kind: Kind::MetalMine,
 };
 
-/// A planet of player 1 without buildings, with 9000 units of each resource.
-fn planet(alloc: Global, at: Coord) -> Planet
+/// A planet of player 1 without buildings, with so many units of each resource.
+fn planet(alloc: Global, at: Coord, units: u64) -> Planet
+    requires { units ≤ CAP }
     ensures at { result.at ≡ at }
     ensures owner { result.owner.k ≡ 1 }
     ensures kinds { length result.units ≡ length UNIT_KINDS }
@@ -45,9 +47,9 @@ fn planet(alloc: Global, at: Coord) -> Planet
         levels: [0; 11],
         tenths: [10; 5],
         stock: Resources {
-            metal: GRAINS * 9000,
-            crystal: GRAINS * 9000,
-            deuterium: GRAINS * 9000,
+            metal: GRAINS * units,
+            crystal: GRAINS * units,
+            deuterium: GRAINS * units,
         },
         debris: Debris {
             metal: 0,
@@ -75,9 +77,10 @@ fn account(alloc: Global, first: Coord, second: Coord) -> Result<Account, AllocE
     })
 }
 
-/// A universe at second 0 with one player and planets at two places.
-fn base(alloc: Global, first: Coord, second: Coord) -> Result<Base, AllocError>
-    requires { coord_before first second ≡ true }
+/// A universe at second 0 with one player and planets at two places, with so many units of each resource.
+fn base(alloc: Global, first: Coord, second: Coord, units: u64) -> Result<Base, AllocError>
+    requires rises { coord_before first second ≡ true }
+    requires units { units ≤ CAP }
     ensures { IfOk result IsSound }
 {
     Ok(Base {
@@ -87,7 +90,7 @@ fn base(alloc: Global, first: Coord, second: Coord) -> Result<Base, AllocError>
         moment: 0,
         number: 0,
         accounts: vec![in alloc; account(alloc, first, second)?]?,
-        planets: vec![in alloc; planet(alloc, first), planet(alloc, second)]?,
+        planets: vec![in alloc; planet(alloc, first, units), planet(alloc, second, units)]?,
     })
 }
 
@@ -109,7 +112,7 @@ fn ask(
 
 #[test]
 fn a_planet_is_the_same_however_often_it_was_asked_for(rt: HostRuntime) -> Result<(), Fail> {
-    let mut universe = LazyUniverse::new(rt.alloc(), &base(rt.alloc(), FIRST, SECOND)?)?;
+    let mut universe = LazyUniverse::new(rt.alloc(), &base(rt.alloc(), FIRST, SECOND, 9000)?)?;
     ask(
         &rt,
         rt.alloc(),
@@ -175,7 +178,7 @@ fn research_and_a_batch_are_ordered(rt: HostRuntime) -> Result<(), Fail> {
         },
         Count { n: 2 },
     );
-    let mut universe = LazyUniverse::new(rt.alloc(), &base(rt.alloc(), FIRST, SECOND)?)?;
+    let mut universe = LazyUniverse::new(rt.alloc(), &base(rt.alloc(), FIRST, SECOND, 9000)?)?;
     ask(&rt, rt.alloc(), &mut universe, robotics, 0)?;
     ask(&rt, rt.alloc(), &mut universe, robotics, 0)?;
     ask(&rt, rt.alloc(), &mut universe, lab, 0)?;
@@ -197,10 +200,63 @@ fn research_and_a_batch_are_ordered(rt: HostRuntime) -> Result<(), Fail> {
     Ok(())
 }
 
+/// A planet that builds 100000 launchers, one in 1440 seconds, and meanwhile five levels of a lab. The third launcher and the fourth
+/// level are done in one second.
+#[test]
+fn a_batch_is_built_beside_a_lab(rt: HostRuntime) -> Result<(), Fail> {
+    let robotics = Request::Build(
+        FIRST,
+        Building {
+            kind: Kind::Robotics,
+        },
+    );
+    let shipyard = Request::Build(
+        FIRST,
+        Building {
+            kind: Kind::Shipyard,
+        },
+    );
+    let lab = Request::Build(FIRST, Building { kind: Kind::Lab });
+    let launchers = Request::Yard(
+        FIRST,
+        Unit {
+            kind: Kind::Launcher,
+        },
+        Count { n: 100000 },
+    );
+    let rich = base(rt.alloc(), FIRST, SECOND, 300000000)?;
+    let mut universe = LazyUniverse::new(rt.alloc(), &rich)?;
+    ask(&rt, rt.alloc(), &mut universe, robotics, 0)?;
+    ask(&rt, rt.alloc(), &mut universe, robotics, 0)?;
+    ask(&rt, rt.alloc(), &mut universe, shipyard, 2000)?;
+    let batch = ask(&rt, rt.alloc(), &mut universe, launchers, 3000)?;
+    assert_eq!(rt; batch.body.as_slice(), b"starts 100000 4440\n".as_slice());
+    'levels: for _ in 0..5 {
+        ask(&rt, rt.alloc(), &mut universe, lab, 3000)?;
+    }
+    let meanwhile = ask(&rt, rt.alloc(), &mut universe, Request::Planet(FIRST), 7320)?;
+    assert_eq!(rt;
+        meanwhile.body.as_slice(),
+        b"planet 1:1:1 1 40 163 7\nstock 99992200 299987040 299993100\nhourly 20 10 0\nlimit 10000 10000 10000\nenergy 0 0\ndebris 0 0\nlevel robotics 2\nlevel shipyard 1\nlevel lab 4\nunits launcher 3\nbuilding 9 lab 5 11928\nyard 4 launcher 99997 8760\n".as_slice(),
+    );
+    let later = ask(
+        &rt,
+        rt.alloc(),
+        &mut universe,
+        Request::Planet(FIRST),
+        1000000000,
+    )?;
+    assert_eq!(rt;
+        later.body.as_slice(),
+        b"planet 1:1:1 1 40 163 8\nstock 99992200 299987040 299993100\nhourly 20 10 0\nlimit 10000 10000 10000\nenergy 0 0\ndebris 0 0\nlevel robotics 2\nlevel shipyard 1\nlevel lab 5\nunits launcher 100000\n".as_slice(),
+    );
+    Ok(())
+}
+
 // Each allocation may fail: `rt try --test --fail-alloc N`.
 #[test]
 fn without_memory_the_cells_stay(rt: HostRuntime) -> Result<(), Fail> {
-    let mut universe = LazyUniverse::new(rt.alloc(), &base(rt.alloc(), FIRST, SECOND)?)?;
+    let mut universe = LazyUniverse::new(rt.alloc(), &base(rt.alloc(), FIRST, SECOND, 9000)?)?;
     let before = universe.dump(rt.alloc())?;
     assert!(rt; universe.number < LAST_NUMBER);
     let req = Request::Build(FIRST, MINE);

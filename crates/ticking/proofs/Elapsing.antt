@@ -17,7 +17,7 @@ use Rattle.laziness.specs.Laws.{Stands}
 use Rattle.laziness.specs.Second.{everything, second as second_of_model}
 use Rattle.laziness.specs.Stamps.{bring_to, happened}
 use Rattle.laziness.specs.World.{IsBase, last_moment as last_moment_of, ticked}
-use Rattle.lazy.proofs.Coursing.{Courses, can-happen, course-ends, course-falls, shows-equal}
+use Rattle.lazy.proofs.Coursing.{AreEqual, Courses, can-happen, course-ends, course-falls, shows-equal}
 use Rattle.lazy.proofs.Showing.{if_some_is}
 use Rattle.lazy.proofs.Waiting.{waiting_in}
 use Rattle.lazy.specs.Planning.{CanAdvance, HoldsSame}
@@ -120,19 +120,19 @@ module _ (base : Universe) (history : List Entry) (rules : Rules) (second : ℕ)
           ((game_laws base.setting).advance_fine (λ x. 1) state is-base.fine) due-later (omega arith);
     }
 
-    pub event-happens : (now : Held) (due : Due) → Courses rules later (second + 1) now → FindsFirst now (second + 1) (Some due) → IsFirstDue now (second + 1) due → second + 1 ≤ LATEST
+    pub event-happens : (now : Held) (due : Due) → Courses AreEqual rules later (second + 1) now → FindsFirst now (second + 1) (Some due) → IsFirstDue now (second + 1) due → second + 1 ≤ LATEST
         → CanHappen now due
     event-happens now due course finds first latest =
-        can-happen rules later now (second + 1) course due finds base.setting (stand (game base.setting) (second + 1) (gained (game base.setting) state)) can-go-on first latest
+        can-happen AreEqual rules later now (second + 1) course due finds base.setting (stand (game base.setting) (second + 1) (gained (game base.setting) state)) can-go-on first latest
 
     -- and fewer events are left then
-    pub event-falls : (now : Held) (due : Due) → Courses rules later (second + 1) now → FindsFirst now (second + 1) (Some due) → (new : Held) → ActsIn rules due now new → HoldsSame now new
+    pub event-falls : (now : Held) (due : Due) → Courses AreEqual rules later (second + 1) now → FindsFirst now (second + 1) (Some due) → (new : Held) → ActsIn rules due now new → HoldsSame now new
         → waiting_in new (names_held later) < waiting_in now (names_held later)
     event-falls now due course finds new acts same =
-        course-falls rules later now (second + 1) course due finds new acts same base.setting (stand (game base.setting) (second + 1) (gained (game base.setting) state)) can-go-on
+        course-falls AreEqual rules later now (second + 1) course due finds new acts same base.setting (stand (game base.setting) (second + 1) (gained (game base.setting) state)) can-go-on
 
     -- and once nothing is due, the second has passed
-    pub second-passed : (now : Held) → Courses rules later (second + 1) now → FindsFirst now (second + 1) None → AreWorld base history rules (second + 1) now
+    pub second-passed : (now : Held) → Courses AreEqual rules later (second + 1) now → FindsFirst now (second + 1) None → AreWorld base history rules (second + 1) now
     second-passed now course finds =
         let M = game base.setting in
         let L = game_laws base.setting in

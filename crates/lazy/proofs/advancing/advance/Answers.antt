@@ -1,14 +1,15 @@
-use Rattle.happenings.specs.Gaining.{GainsIn}
-use Rattle.happenings.proofs.Copying.{if_ok}
+use Rattle.std.proofs.Common.{◌≤◌, ◌<◌, arith}
+use Rattle.happenings.specs.Gaining.{Gains, GainsIn}
+use Rattle.happenings.specs.Sights.{names_held}
 use Rattle.lazy.specs.Advancing.{AdvancesIn}
-use Rattle.lazy.proofs.Coursing.{can-happen, course-advances, course-behind, course-falls, course-goes-on}
-use Rattle.lazy.proofs.Waiting.{happens_same}
+use Rattle.lazy.proofs.Coursing.{AgreeThen, can-happen, course-advances, course-behind, course-falls, course-goes-on, course-runs, if-both}
+use Rattle.lazy.proofs.Waiting.{happens_same, runs_no_more, waiting_in}
 use Rattle.lazy.proofs.advancing.advance.Goals as goal
 
 pub apply-requires-clause-due : goal.apply-requires-clause-due
 apply-requires-clause-due c =
     let known = c.requires.can in
-    can-happen c.args.rules.now c.args.cells.now c.events.copies c.args.moment c.events.invariant c.in-Some.due c.in-Some.ensures.shown
+    can-happen AgreeThen c.args.rules.now c.args.cells.now c.events.copies c.args.moment c.events.invariant c.in-Some.due c.in-Some.ensures.shown
     known.0 known.1 known.2 c.in-Some.ensures.due c.requires.in_time
 
 pub events-smaller : goal.events-smaller
@@ -16,11 +17,16 @@ events-smaller c =
     let known = c.requires.can in
     let held = c.args.cells.now in
     let old = c.events.copies in
-    let can = can-happen c.args.rules.now held old c.args.moment c.events.invariant c.in-Some.due c.in-Some.ensures.shown known.0 known.1 known.2 c.in-Some.ensures.due c.requires.in_time in
+    let can = can-happen AgreeThen c.args.rules.now held old c.args.moment c.events.invariant c.in-Some.due c.in-Some.ensures.shown known.0 known.1 known.2 c.in-Some.ensures.due c.requires.in_time in
     let due = c.in-Some.due in
-    let new = c.apply.new.cells in
-    let same = happens_same c.args.rules.now due old new can c.in_ok-apply.ensures.happens in
-    course-falls c.args.rules.now held old c.args.moment c.events.invariant due c.in-Some.ensures.shown new c.in_ok-apply.ensures.acts same known.0 known.1 known.2
+    let after = c.apply.new.cells in
+    let new = c.run_yards.new.cells in
+    let same = happens_same c.args.rules.now due old after can c.in_ok-apply.ensures.happens in
+    let fewer : waiting_in after (names_held held) < waiting_in old (names_held held) =
+    course-falls AgreeThen c.args.rules.now held old c.args.moment c.events.invariant due c.in-Some.ensures.shown after c.in_ok-apply.ensures.acts same known.0 known.1 known.2 in
+    let no_more : waiting_in new (names_held held) ≤ waiting_in after (names_held held) =
+    runs_no_more c.args.rules.now c.args.moment after new c.in_ok-run_yards.ensures.runs (names_held held) in
+    omega (arith, fewer, no_more)
 
 pub events-preserved : goal.events-preserved
 events-preserved c =
@@ -28,17 +34,19 @@ events-preserved c =
     let held = c.args.cells.now in
     let old = c.events.copies in
     let due = c.in-Some.due in
-    let new = c.apply.new.cells in
-    let can = can-happen c.args.rules.now held old c.args.moment c.events.invariant due c.in-Some.ensures.shown known.0 known.1 known.2 c.in-Some.ensures.due c.requires.in_time in
-    course-goes-on c.args.rules.now held old c.args.moment c.events.invariant due c.in-Some.ensures.shown new c.in_ok-apply.ensures.acts c.in_ok-apply.ensures.named
-    (happens_same c.args.rules.now due old new can c.in_ok-apply.ensures.happens)
+    let after = c.apply.new.cells in
+    let new = c.run_yards.new.cells in
+    let can = can-happen AgreeThen c.args.rules.now held old c.args.moment c.events.invariant due c.in-Some.ensures.shown known.0 known.1 known.2 c.in-Some.ensures.due c.requires.in_time in
+    let course = course-goes-on AgreeThen c.args.rules.now held old c.args.moment c.events.invariant due c.in-Some.ensures.shown after c.in_ok-apply.ensures.acts c.in_ok-apply.ensures.named
+    (happens_same c.args.rules.now due old after can c.in_ok-apply.ensures.happens) in
+    course-runs c.args.rules.now held after c.args.moment course new c.in_ok-run_yards.ensures.runs c.in_ok-run_yards.ensures.named
 
 pub gained-requires-clause-behind : goal.gained-requires-clause-behind
 gained-requires-clause-behind c =
     let known = c.requires.can in
-    course-behind c.args.rules.now c.args.cells.now c.events.copies c.args.moment c.events.invariant known.0 known.1 known.2
+    course-behind AgreeThen c.args.rules.now c.args.cells.now c.events.copies c.args.moment c.events.invariant known.0 known.1 known.2
 
 pub returns-clause-advances : goal.returns-clause-advances
 returns-clause-advances c =
-    if_ok c.gained.result (GainsIn c.args.rules.now c.args.moment c.events.copies) (AdvancesIn c.args.rules.now c.args.cells.now c.args.moment)
-    (course-advances c.args.rules.now c.args.cells.now c.events.copies c.args.moment c.events.invariant c.in_default.ensures.shown) c.gained.ensures.shows
+    if-both c.gained.result (Gains c.args.rules.now c.args.moment c.events.copies) (GainsIn c.args.rules.now c.args.moment c.events.copies) (AdvancesIn c.args.rules.now c.args.cells.now c.args.moment)
+    (course-advances c.args.rules.now c.args.cells.now c.events.copies c.args.moment c.events.invariant c.in_default.ensures.shown) c.gained.ensures.gains c.gained.ensures.shows

@@ -11,6 +11,6 @@ returns c =
     sound_two _ account one two c.in_ok-vec.ensures.items c.in_ok-vec-2.ensures.items (c.in_ok-account.ensures.planets ∙ (λ i. sym c.planet.ensures.at i ∷ sym c.planet-2.ensures.at i ∷ [])) c.in_ok-account.ensures.units
     c.in_ok-account.ensures.research
     (player_is one.owner account.player (c.planet.ensures.owner ∙ sym c.in_ok-account.ensures.player)) (player_is two.owner account.player (c.planet-2.ensures.owner ∙ sym c.in_ok-account.ensures.player))
-    (rw (c.planet.ensures.at, c.planet-2.ensures.at) c.requires)
+    (rw (c.planet.ensures.at, c.planet-2.ensures.at) c.requires.rises)
     (record { kinds = c.planet.ensures.kinds; units = c.planet.ensures.units; buildings = c.planet.ensures.buildings; yard = c.planet.ensures.yard })
     (record { kinds = c.planet-2.ensures.kinds; units = c.planet-2.ensures.units; buildings = c.planet-2.ensures.buildings; yard = c.planet-2.ensures.yard })

@@ -1,5 +1,5 @@
 use Rattle.std.proofs.Common.{◌+◌, arith, refl}
-use Rattle.lazy.proofs.Coursing.{course-goes-on, course-starts}
+use Rattle.lazy.proofs.Coursing.{AreEqual, course-goes-on, starts-equal}
 use Rattle.lazy.proofs.Waiting.{happens_same}
 use Rattle.ticking.proofs.Elapsing.{all-behind, event-falls, event-happens, second-passed}
 use Rattle.ticking.proofs.passing.pass_second.Goals as goal
@@ -13,7 +13,7 @@ gained-requires-clause-behind c =
     all-behind known.0 known.1 c.args.rules.now c.args.second c.args.cells.now known.2
 
 pub events-init : goal.events-init
-events-init c = course-starts c.args.rules.now c.in_ok-later.later c.in_ok-later.later (c.args.second + 1) (λ cell. refl) c.in_ok-later.ensures.named
+events-init c = starts-equal c.args.rules.now c.in_ok-later.later c.in_ok-later.later (c.args.second + 1) (λ cell. refl) c.in_ok-later.ensures.named
 
 pub apply-requires-clause-due : goal.apply-requires-clause-due
 apply-requires-clause-due c =
@@ -35,7 +35,7 @@ events-preserved c =
     let known = c.requires.all in
     let can = event-happens known.0 known.1 c.args.rules.now c.args.second c.args.cells.now known.2 c.in_ok-later.later c.in_ok-later.ensures.gains c.in_ok-later.ensures.shows
     c.events.later c.in-Some.due c.events.invariant c.in-Some.ensures.shown c.in-Some.ensures.due (omega arith) in
-    course-goes-on c.args.rules.now c.in_ok-later.later c.events.later (c.args.second + 1) c.events.invariant c.in-Some.due c.in-Some.ensures.shown c.apply.new.cells
+    course-goes-on AreEqual c.args.rules.now c.in_ok-later.later c.events.later (c.args.second + 1) c.events.invariant c.in-Some.due c.in-Some.ensures.shown c.apply.new.cells
     c.in_ok-apply.ensures.acts c.in_ok-apply.ensures.named (happens_same c.args.rules.now c.in-Some.due c.events.later c.apply.new.cells can c.in_ok-apply.ensures.happens)
 
 pub returns : goal.returns
