@@ -1,0 +1,90 @@
+"""Runs the program on generated input, and prints a table of what it took.
+
+From the top of the repository, with the program built: python3 bench/program/measure.py
+"""
+
+import subprocess
+import sys
+import tempfile
+import time
+
+PROGRAM = "crates/universe/out/universe"
+RUNS = 5
+LATE = 1_000_000_000
+
+
+def place(index):
+    """The place of a planet: positions 1 to 15 of one system after the other."""
+    return f"{index // 7485 + 1}:{index // 15 % 499 + 1}:{index % 15 + 1}"
+
+
+def founding(players, lines=()):
+    """A universe of so many players with two planets each, and further founding lines."""
+    text = ["universe 7 1 1000 0"]
+    text += [f"player {number}" for number in range(1, players + 1)]
+    text += [f"planet {place(index)} {index // 2 + 1} 40 163" for index in range(2 * players)]
+    return text + list(lines) + ["."]
+
+
+def questions_at_one(count):
+    """Questions at the first planet, each a second later."""
+    return [f"@{second} 1 planet 1:1:1" for second in range(1, count + 1)]
+
+
+def questions_at_many(count, players):
+    """Questions at planets that a plain generator draws, each a second later, by their owners."""
+    lines, state = [], 1
+    for second in range(1, count + 1):
+        state = (state * 1103515245 + 12345) % 2**31
+        index = state // 16 % (2 * players)
+        lines.append(f"@{second} {index // 2 + 1} planet {place(index)}")
+    return lines
+
+
+def buildings(players):
+    """A metal mine is ordered on each planet, and each planet is asked once it stands."""
+    orders = [f"@0 {index // 2 + 1} build {place(index)} metalmine" for index in range(2 * players)]
+    asked = [f"@{LATE} {index // 2 + 1} planet {place(index)}" for index in range(2 * players)]
+    return orders + asked
+
+
+def batch(unit, count):
+    """A planet that can pay a batch, and one question long after its order."""
+    lines = ["stock 1:1:1 4000000000000 4000000000000 4000000000000", "level 1:1:1 shipyard 12", "tech 1 impulse 3"]
+    return founding(1, lines) + [f"@0 1 yard 1:1:1 {unit} {count}", f"@{LATE} 1 planet 1:1:1"]
+
+
+CASES = [
+    ("founding 10000 players and 20000 planets", lambda: founding(10000)),
+    ("and 200000 questions at one planet", lambda: founding(10000) + questions_at_one(200000)),
+    ("and 200000 questions at planets that are drawn", lambda: founding(10000) + questions_at_many(200000, 10000)),
+    ("1000 players, 2000 planets, 200000 questions at one", lambda: founding(1000) + questions_at_one(200000)),
+    ("1000 players, 2000 planets, 200000 questions at many", lambda: founding(1000) + questions_at_many(200000, 1000)),
+    ("a mine on each of 20000 planets, each asked 10^9 s later", lambda: founding(10000) + buildings(10000)),
+    ("100000 launchers, asked 10^9 s later", lambda: batch("launcher", 100000)),
+    ("100000 satellites, asked 10^9 s later", lambda: batch("satellite", 100000)),
+]
+
+
+def run_once(path):
+    """Seconds, and the most memory in MB, of one run."""
+    with open(path, "rb") as source:
+        start = time.perf_counter()
+        command = ["/usr/bin/time", "-f", "%M", PROGRAM, ".", "trial"]
+        run = subprocess.run(command, stdin=source, stdout=subprocess.DEVNULL, stderr=subprocess.PIPE, check=True)
+        seconds = time.perf_counter() - start
+    return seconds, int(run.stderr) / 1024
+
+
+def main():
+    print("| input | seconds | MB |")
+    print("|---|---|---|")
+    for name, text in CASES:
+        with tempfile.NamedTemporaryFile("w", suffix=".txt") as script:
+            script.write("\n".join(text()) + "\n")
+            script.flush()
+            runs = [run_once(script.name) for _ in range(RUNS)]
+        print(f"| {name} | {min(run[0] for run in runs):.2f} | {max(run[1] for run in runs):.0f} |", flush=True)
+
+
+main()
