@@ -1,0 +1,401 @@
+"""Draws an input for `model.py dump`: a founding text and a script of all six forms.
+
+    generate.py SEED LINES > INPUT
+
+The script is made of scenes of a few lines each. Most readings lie close to the next event, which the model tells.
+"""
+
+import random
+import sys
+
+from model import Run, found
+from tables import BUILDINGS, DOMES, KINDS, TECHNOLOGIES, UNITS, WORKS
+from universe import MOST_UNITS, QUEUE_LENGTH, text
+
+PLAYERS = [1, 2, 300]
+STRANGER = 4711
+EMPTY_PLACE = "4:4:4"
+PLACES = ["1:1:1", "1:2:15", "1:10:1", "1:10:2", "1:499:15", "2:1:1", "3:7:9", "9:1:1", "9:499:15"]
+RICH, MIDDLE, POOR, NEW = "rich", "middle", "poor", "new"
+HIGHEST_LEVELS = {RICH: 14, MIDDLE: 8, POOR: 3, NEW: 1}
+STOCKS = {RICH: (10**5, 10**8), MIDDLE: (3000, 60000), POOR: (0, 900)}
+
+
+def founding_lines(rng):
+    yield f"universe {rng.randrange(2**64)} {rng.choice([1, 2, 5, 100])} 1000 {rng.choice([0, 0, 1000])}"
+    for player in PLAYERS:
+        yield f"player {player}"
+        yield from technology_lines(rng, player)
+    energy_place, race_place, full_place, *places = rng.sample(PLACES, rng.randint(7, 9))
+    yield from graviton_planet_lines(energy_place)
+    yield from race_planet_lines(race_place)
+    yield from planet_lines(rng, full_place, 1, 2)
+    owners = [1, 2, 300, 300] + rng.choices(PLAYERS, k=2)
+    for place, owner in zip(places, owners):
+        yield from planet_lines(rng, place, owner, rng.randint(5, 200))
+    yield "."
+
+
+def technology_lines(rng, player):
+    """Player 2 begins without technologies, and with many units."""
+    if player != 2:
+        for word in sorted({"shielding", *rng.sample(TECHNOLOGIES[:-1], rng.randint(3, 10))}):
+            yield f"tech {player} {word} {rng.randint(1, 12)}"
+
+
+def graviton_planet_lines(place):
+    """A planet of player 2 that gives enough energy for graviton at ten tenths, and not at nine."""
+    yield f"planet {place} 2 40 163"
+    yield f"stock {place} 3000 9000 6000"
+    yield f"level {place} lab 12"
+    yield f"level {place} robotics 2"
+    yield f"level {place} shipyard 2"
+    yield f"level {place} crystalstore 16"
+    yield f"units {place} satellite 10100"
+    yield f"units {place} launcher 75000"
+
+
+def race_planet_lines(place):
+    """A planet of player 2 on which the first store takes as long as the first energy research."""
+    yield f"planet {place} 2 40 163"
+    yield f"stock {place} 2000 1200 1000"
+    yield f"level {place} lab 1"
+
+
+def planet_lines(rng, place, owner, free_fields):
+    wealth = RICH if owner == 2 else rng.choice([RICH, MIDDLE, MIDDLE, POOR, NEW])
+    words = rng.sample(BUILDINGS, rng.randint(1, 7)) + rng.choice([["lab", "shipyard"], ["lab"], ["shipyard"]])
+    levels = {word: rng.randint(1, min(HIGHEST_LEVELS[wealth], KINDS[word].cap)) for word in words}
+    fields = sum(levels.values()) + free_fields
+    yield f"planet {place} {owner} {rng.choice([-130, -129, -20, 0, 40, 260])} {fields}"
+    if wealth in STOCKS:
+        yield "stock " + place + "".join(f" {rng.randint(*STOCKS[wealth])}" for _ in range(3))
+    for word, level in levels.items():
+        yield f"level {place} {word} {level}"
+    if wealth != NEW:
+        for unit in rng.sample(UNITS, rng.randint(1, 4)):
+            yield f"units {place} {unit} {1 if unit in DOMES else rng.choice([1, 7, 30, 700])}"
+
+
+class Script:
+    """Lines that are written one by one, and the model that answers them."""
+
+    def __init__(self, rng):
+        self.rng = rng
+        self.lines = list(founding_lines(rng))
+        universe, _ = found(self.lines)
+        self.run = Run(universe)
+        self.answers = []
+
+    def say(self, player, request, reading=None):
+        """Writes a line, and keeps its answer. If no reading is given, one is drawn."""
+        reading = self.reading() if reading is None else reading
+        self.write(f"@{reading} {player} {request}", request)
+
+    def write(self, line, request):
+        self.lines.append(line)
+        self.answers.append((request, self.run.answer(line)))
+
+    def now(self):
+        return self.run.universe.moment
+
+    def reading(self):
+        """Now, earlier, a little later, near the next event, or much later."""
+        rng, now = self.rng, self.now()
+        seconds = [event[0] for event in self.run.universe.events()]
+        draw = rng.random()
+        if draw < 0.35 or (draw < 0.8 and not seconds):
+            return now
+        if draw < 0.42:
+            return max(0, now - rng.choice([1, 50]))
+        if draw < 0.75:
+            return min(seconds) + rng.choice([-1, 0, 0, 1])
+        if draw < 0.80:
+            return rng.choice(seconds)
+        if draw < 0.97:
+            return now + rng.choice([1, 7, 60, 600])
+        return now + rng.choice([3600, 20000])
+
+    def places_of(self, player):
+        return [text(planet.place) for planet in self.run.universe.planets_of(player)]
+
+    def player_and_place(self):
+        """Mostly a player and a planet of his."""
+        rng = self.rng
+        player = rng.choice(PLAYERS)
+        draw = rng.random()
+        if draw < 0.02:
+            return STRANGER, rng.choice(PLACES)
+        if draw < 0.04 or not self.places_of(player):
+            return player, EMPTY_PLACE
+        if draw < 0.06:
+            return player, rng.choice(PLACES)
+        return player, rng.choice(self.places_of(player))
+
+    def planet_at(self, place):
+        return self.run.universe.planets.get(tuple(map(int, place.split(":"))))
+
+    def allowed(self, place, words):
+        """Those of the kinds that the planet at a place may order."""
+        planet = self.planet_at(place)
+        return [word for word in words if planet and not self.run.universe.lacks_needs(planet, word)]
+
+    def kind(self, place, words):
+        """One of the kinds, mostly one that may be ordered."""
+        allowed = self.allowed(place, words)
+        return self.rng.choice(allowed if allowed and self.rng.random() < 0.85 else words)
+
+
+# Scenes.
+
+
+def ask(script):
+    player, place = script.player_and_place()
+    script.say(player, "account" if script.rng.random() < 0.4 else f"planet {place}")
+
+
+def build(script):
+    player, place = script.player_and_place()
+    script.say(player, f"build {place} {script.kind(place, BUILDINGS)}")
+
+
+def build_too_much(script):
+    """A building that is at its cap or needs something else first."""
+    universe = script.run.universe
+    for planet in script.rng.sample(list(universe.planets.values()), len(universe.planets)):
+        place = text(planet.place)
+        allowed = script.allowed(place, BUILDINGS)
+        words = [word for word in BUILDINGS if word not in allowed or planet.levels[word] == KINDS[word].cap]
+        if words and len(planet.buildings) < QUEUE_LENGTH:
+            return script.say(planet.owner, f"build {place} {script.rng.choice(words)}")
+
+
+def fill_fields(script):
+    """One building more than a planet has fields for."""
+    for planet in script.run.universe.planets.values():
+        free = planet.fields - planet.used() - len(planet.buildings)
+        if free < 4:
+            for _ in range(free + 1):
+                script.say(planet.owner, f"build {text(planet.place)} {script.rng.choice(BUILDINGS[:4])}", script.now())
+
+
+def build_often(script):
+    """More items than a queue takes."""
+    player, place = script.player_and_place()
+    for _ in range(script.rng.randint(3, 6)):
+        script.say(player, f"build {place} {script.rng.choice(BUILDINGS[:8])}", script.now())
+
+
+def research(script):
+    player, place = script.player_and_place()
+    script.say(player, f"research {place} {script.kind(place, TECHNOLOGIES)}")
+
+
+def research_often(script):
+    """Research for several planets of one player."""
+    research_of(script, script.rng.choice(PLAYERS))
+
+
+def research_of(script, player):
+    for place in script.rng.choices(script.places_of(player), k=script.rng.randint(3, 6)):
+        script.say(player, f"research {place} {script.kind(place, TECHNOLOGIES)}", script.now())
+
+
+def order_units(script):
+    player, place = script.player_and_place()
+    unit = script.kind(place, UNITS + ["satellite"] * 3)
+    script.say(player, f"yard {place} {unit} {script.rng.choice([1, 1, 2, 3, 8, 40, 900, 100000])}")
+
+
+def affordable(script, planet):
+    """The kinds of units that a planet may order and pay, each with the greatest count, the dearest batch first."""
+    batches = []
+    for unit in script.allowed(text(planet.place), UNITS):
+        cost = KINDS[unit].cost(1)
+        count = min(stock // part for stock, part in zip(planet.stock(), cost) if part)
+        if count:
+            batches.append((unit, min(count, MOST_UNITS)))
+    return sorted(batches, key=lambda batch: -batch[1] * sum(KINDS[batch[0]].cost(1)))
+
+
+def rich_planets(script, kinds):
+    """The planets that can pay a unit of one of the kinds, in any order, and the units that each can pay."""
+    planets = list(script.run.universe.planets.values())
+    script.rng.shuffle(planets)
+    for planet in planets:
+        units = [unit for unit, _ in affordable(script, planet) if unit in kinds]
+        if units:
+            yield planet, units
+
+
+def order_domes(script):
+    for planet, domes in rich_planets(script, DOMES):
+        place, dome = text(planet.place), script.rng.choice(domes)
+        script.say(planet.owner, f"yard {place} {dome} 1")
+        return script.say(planet.owner, f"yard {place} {dome} {script.rng.choice([1, 1, 2])}")
+
+
+def yard_often(script):
+    """More batches than a yard takes."""
+    for planet, units in rich_planets(script, UNITS):
+        for unit in script.rng.choices(units, k=script.rng.randint(3, 6)):
+            count = script.rng.choice([1, 1, 2, 5])
+            script.say(planet.owner, f"yard {text(planet.place)} {unit} {count}", script.now())
+        return
+
+
+def improve_yard(script):
+    """A shipyard is ordered while units are built in it."""
+    for planet, units in rich_planets(script, UNITS):
+        place = text(planet.place)
+        script.say(planet.owner, f"yard {place} {script.rng.choice(units)} {script.rng.randint(3, 9)}", script.now())
+        return script.say(planet.owner, f"build {place} shipyard", script.now())
+
+
+def race(script):
+    """A building and a research are done in one second, and of what waits behind them only one can be paid."""
+    planet = next(planet for planet in script.run.universe.planets.values() if planet.owner == 2 and planet.used() == 1)
+    orders = [("build", "metalstore", "metalmine"), ("research", "energy", "computer")]
+    script.rng.shuffle(orders)
+    for turn in (1, 2):
+        for order in orders:
+            script.say(2, f"{order[0]} {text(planet.place)} {order[turn]}", script.now())
+
+
+def spend_all(script):
+    """A planet becomes poor while research waits for it."""
+    universe = script.run.universe
+    waiting = [(account, item) for account in universe.accounts.values() for item in account.research[1:]]
+    if not waiting:
+        return research_often(script)
+    account, item = script.rng.choice(waiting)
+    for unit, count in affordable(script, universe.planets[item.place])[: script.rng.randint(1, 3)]:
+        count = 1 if unit in DOMES else count
+        script.say(account.player, f"yard {text(item.place)} {unit} {count}", script.now())
+    if account.research:
+        script.say(account.player, "account", account.research[0].second)
+
+
+def graviton_place(script):
+    planets = script.run.universe.planets.values()
+    return next(text(planet.place) for planet in planets if planet.units["satellite"] > 10000)
+
+
+def graviton(script):
+    """Graviton is ordered where there is energy for it, and the satellites are turned down or not."""
+    rng, place = script.rng, graviton_place(script)
+    script.say(2, f"research {place} {rng.choice(['energy', 'computer', 'armour'])}", script.now())
+    for tenths in (9, 10, 10):
+        script.say(2, f"set {place} satellite {tenths}", script.now())
+        script.say(2, f"research {place} graviton", script.now())
+    script.say(2, f"set {place} satellite {rng.choice([9, 10])}", script.now())
+    script.say(2, "account", script.now())
+
+
+def beginning(script):
+    """A shipyard is done while units are built. Of what waits behind it only the last can be paid."""
+    place, start = graviton_place(script), script.now()
+    race(script)
+    script.say(2, f"yard {place} satellite 3", start)
+    for word in ("shipyard", "lab", "metalmine"):
+        script.say(2, f"build {place} {word}", start)
+    graviton(script)
+    [batch] = script.planet_at(place).yard
+    script.say(2, f"planet {place}", start + 2 * batch.each + 1)
+
+
+def ceiling(script):
+    """A rich planet asks for as many units as its player may have, and for more."""
+    universe = script.run.universe
+    for planet in script.rng.sample(list(universe.planets.values()), len(universe.planets)):
+        free = MOST_UNITS - universe.units_of(planet.owner)
+        dear = [unit for unit, count in affordable(script, planet) if count > free > 0 and unit not in DOMES]
+        if dear and len(planet.yard) < QUEUE_LENGTH:
+            for count in script.rng.sample([free + 1, free - 1], script.rng.randint(1, 2)):
+                script.say(planet.owner, f"yard {text(planet.place)} {script.rng.choice(dear)} {count}", script.now())
+            return
+
+
+def set_work(script):
+    player, place = script.player_and_place()
+    script.say(player, f"set {place} {script.rng.choice(WORKS)} {script.rng.randint(0, 10)}")
+
+
+def ask_wrongly(script):
+    """A stranger asks, and a player for a place without a planet and for somebody else's planet."""
+    rng = script.rng
+    player, stranger_to_it = rng.sample(PLAYERS, 2)
+    words = {"planet": "", "build": " lab", "research": " energy", "yard": " launcher 1", "set": " satellite 5"}
+    form, word = rng.choice(list(words.items()))
+    script.say(STRANGER, rng.choice(["account", *[f"{form} {EMPTY_PLACE}{word}"] * 3]))
+    script.say(player, f"{form} {EMPTY_PLACE}{word}")
+    script.say(stranger_to_it, f"{form} {rng.choice(script.places_of(player))}{word}")
+
+
+def bad_line(script):
+    lines = [
+        "",
+        "@5 1 fleets",
+        "@5 1 planet 1:1:16",
+        f"@{script.now()} 1 planet 1:1:1 ",
+        "@5 1 research 1:1:1 lab",
+        "@5 1 yard 1:1:1 launcher 0",
+        "@5 1 account 1",
+        "@1099511627776 1 account",
+        *["@5 1 planet " + "1" * 400] * 3,
+    ]
+    script.write(script.rng.choice(lines), "")
+
+
+def last_touches(script):
+    """The end: accounts whose research is done or isn't, a stranger, and a planet that somebody else asks for."""
+    for player in PLAYERS:
+        research_of(script, player)
+    for player in PLAYERS:
+        queue = script.run.universe.accounts[player].research
+        script.say(player, "account", queue[0].second if queue else script.now())
+    script.say(300, "account", script.now() + 1)
+    script.say(1, "account", script.now() + 1)
+    script.say(1, f"planet {script.places_of(2)[0]}", script.now() + 1)
+    script.say(STRANGER, f"planet {script.places_of(300)[0]}", script.now() + 1)
+
+
+SCENES = {
+    ask: 10,
+    build: 5,
+    build_too_much: 1.2,
+    fill_fields: 1,
+    build_often: 2,
+    research: 3,
+    research_often: 2,
+    order_units: 5,
+    order_domes: 1,
+    yard_often: 2,
+    improve_yard: 1,
+    spend_all: 3,
+    graviton: 1,
+    ceiling: 1,
+    set_work: 3,
+    ask_wrongly: 3,
+    bad_line: 1,
+}
+
+
+def draw_script(seed, lines):
+    script = Script(random.Random(seed))
+    most = len(script.lines) + lines - 20
+    beginning(script)
+    while len(script.lines) < most:
+        [scene] = script.rng.choices(list(SCENES), SCENES.values())
+        scene(script)
+    last_touches(script)
+    return script
+
+
+def main():
+    seed, lines = map(int, sys.argv[1:])
+    sys.stdout.write("".join(text + "\n" for text in draw_script(seed, lines).lines))
+
+
+if __name__ == "__main__":
+    main()

@@ -1,0 +1,365 @@
+"""The universe of docs/RULES.md: planets and accounts that all stand at one second."""
+
+from collections import Counter
+from dataclasses import dataclass, field
+
+from tables import BUILDINGS, DOMES, KINDS, LIMITS, STORES, TECHNOLOGIES, UNITS, WORKS
+
+GRAINS = 3600
+QUEUE_LENGTH = 5
+MOST_UNITS = 100000
+GRAVITON_ENERGY = 300000
+
+
+class Refused(Exception):
+    """A request that is refused, with its code."""
+
+    def __init__(self, code):
+        self.code = code
+
+
+def refuse_first(reasons):
+    """Refuses with the first code whose reason holds."""
+    for code, holds in reasons:
+        if holds:
+            raise Refused(code)
+
+
+def rounded_up(above, below):
+    return -(-above // below)
+
+
+@dataclass
+class Item:
+    """A building or a research that runs or waits. One that waits has no level and no second yet."""
+
+    number: int
+    kind: str
+    place: tuple
+    level: int = 0
+    second: int = 0
+
+
+@dataclass
+class Batch:
+    """Units that are built or wait in a yard."""
+
+    number: int
+    unit: str
+    left: int
+    each: int = 0
+    second: int = 0
+
+
+@dataclass
+class Planet:
+    place: tuple
+    owner: int
+    temperature: int
+    fields: int
+    grains: list = field(default_factory=lambda: [500 * GRAINS, 500 * GRAINS, 0])
+    levels: Counter = field(default_factory=Counter)
+    tenths: dict = field(default_factory=lambda: dict.fromkeys(WORKS, 10))
+    units: Counter = field(default_factory=Counter)
+    buildings: list = field(default_factory=list)
+    yard: list = field(default_factory=list)
+
+    def stock(self):
+        return [grains // GRAINS for grains in self.grains]
+
+    def used(self):
+        return sum(self.levels.values())
+
+    def limits(self):
+        return [LIMITS[self.levels[store]] for store in STORES]
+
+    def made(self, work, rate):
+        """The parts above and below the line of rate · L · (11/10)^L · n/10."""
+        level = self.levels[work]
+        return rate * level * 11**level * self.tenths[work], 10**level * 10
+
+    def mines(self):
+        metal, below_metal = self.made("metalmine", 30)
+        crystal, below_crystal = self.made("crystalmine", 20)
+        deuterium, below_deuterium = self.made("deuteriumsynth", 10)
+        deuterium *= 1280 - 2 * self.temperature
+        return [metal // below_metal, crystal // below_crystal, deuterium // (below_deuterium * 1000)]
+
+    def energy_needed(self):
+        rates = {"metalmine": 10, "crystalmine": 10, "deuteriumsynth": 20}
+        return sum(rounded_up(*self.made(mine, rate)) for mine, rate in rates.items())
+
+    def energy_given(self):
+        above, below = self.made("solarplant", 20)
+        one = (self.temperature + 140) // 6
+        return above // below + self.units["satellite"] * one * self.tenths["satellite"] // 10
+
+    def hourly(self, speed):
+        given, need = self.energy_given(), self.energy_needed()
+        basic = [20 * speed, 10 * speed, 0]
+        if need == 0:
+            return basic
+        return [income + mine * speed * min(given, need) // need for income, mine in zip(basic, self.mines())]
+
+    def gain(self, speed, seconds):
+        """So many seconds of production, in none of which a level, a setting or a satellite changes."""
+        for index, (limit, hourly) in enumerate(zip(self.limits(), self.hourly(speed))):
+            if self.grains[index] < limit * GRAINS:
+                self.grains[index] = min(self.grains[index] + hourly * seconds, limit * GRAINS)
+
+    def can_pay(self, price):
+        return all(stock >= part for stock, part in zip(self.stock(), price))
+
+    def pay(self, price):
+        self.grains = [grains - part * GRAINS for grains, part in zip(self.grains, price)]
+
+    def ordered(self, unit):
+        return sum(batch.left for batch in self.yard if batch.unit == unit)
+
+    def all_units(self):
+        return sum(self.units.values()) + sum(batch.left for batch in self.yard)
+
+
+@dataclass
+class Account:
+    player: int
+    levels: Counter = field(default_factory=Counter)
+    research: list = field(default_factory=list)
+
+
+class Universe:
+    def __init__(self, speed, moment):
+        self.speed = speed
+        self.moment = moment
+        self.accounts = {}
+        self.planets = {}
+        self.seen = Counter()
+
+    # What a thing costs and how long it takes.
+
+    def duration(self, price, below):
+        return max(1, GRAINS * (price[0] + price[1]) // (below * self.speed))
+
+    def building_time(self, planet, price):
+        return self.duration(price, 2500 * (1 + planet.levels["robotics"]) * 2 ** planet.levels["nanite"])
+
+    def unit_time(self, planet, unit):
+        below = 2500 * (1 + planet.levels["shipyard"]) * 2 ** planet.levels["nanite"]
+        return self.duration(KINDS[unit].cost(1), below)
+
+    def research_time(self, planet, price):
+        return self.duration(price, 1000 * (1 + planet.levels["lab"]))
+
+    def lacks_needs(self, planet, word):
+        kind, account = KINDS[word], self.accounts[planet.owner]
+        lacks_building = kind.needed_building and planet.levels[kind.needed_building[0]] < kind.needed_building[1]
+        return lacks_building or any(account.levels[need] < level for need, level in kind.needed_technologies)
+
+    # Time.
+
+    def pass_to(self, moment, plainly=False):
+        """Passes every second up to a moment. If it isn't done plainly, quiet seconds pass at once."""
+        while self.moment < moment:
+            next_second = self.moment + 1
+            if not plainly:
+                next_second = min([moment] + [second for second, *_ in self.events()])
+            self.pass_quiet(next_second)
+            self.events_happen()
+
+    def pass_quiet(self, next_second):
+        for planet in self.planets.values():
+            planet.gain(self.speed, next_second - self.moment)
+        self.moment = next_second
+
+    def events(self):
+        """What is due: second, number of the order, step, and whose it is."""
+        for planet in self.planets.values():
+            if planet.buildings:
+                yield planet.buildings[0].second, planet.buildings[0].number, 1, planet
+            if planet.yard:
+                yield planet.yard[0].second, planet.yard[0].number, 3, planet
+        for account in self.accounts.values():
+            if account.research:
+                yield account.research[0].second, account.research[0].number, 2, account
+
+    def events_happen(self):
+        due = sorted((event for event in self.events() if event[0] == self.moment), key=lambda event: event[:3])
+        self.seen["second of several events"] += len(due) > 1
+        for _, _, step, owner in due:
+            {1: self.building_done, 2: self.research_done, 3: self.unit_done}[step](owner)
+
+    def building_done(self, planet):
+        item = planet.buildings.pop(0)
+        planet.levels[item.kind] += 1
+        while planet.buildings and not self.start_building(planet):
+            planet.buildings.pop(0)
+            self.seen["building dropped"] += 1
+
+    def start_building(self, planet):
+        """Pays and starts the first item of the queue. Is false if the planet can't pay it."""
+        item = planet.buildings[0]
+        level = planet.levels[item.kind] + 1
+        price = KINDS[item.kind].cost(level)
+        if not planet.can_pay(price):
+            return False
+        planet.pay(price)
+        item.level, item.second = level, self.moment + self.building_time(planet, price)
+        return True
+
+    def research_done(self, account):
+        item = account.research.pop(0)
+        account.levels[item.kind] += 1
+        self.seen[item.kind + " done"] += 1
+        while account.research and not self.start_waiting_research(account):
+            dropped = account.research.pop(0)
+            self.seen["graviton dropped" if dropped.kind == "graviton" else "research dropped"] += 1
+
+    def start_waiting_research(self, account):
+        item = account.research[0]
+        dark = item.kind == "graviton" and self.planets[item.place].energy_given() < GRAVITON_ENERGY
+        return not dark and self.start_research(account)
+
+    def start_research(self, account):
+        """Pays and starts the first item of the queue. Is false if its planet can't pay it."""
+        item = account.research[0]
+        planet = self.planets[item.place]
+        level = account.levels[item.kind] + 1
+        price = KINDS[item.kind].cost(level)
+        if not planet.can_pay(price):
+            return False
+        planet.pay(price)
+        item.level, item.second = level, self.moment + self.research_time(planet, price)
+        return True
+
+    def unit_done(self, planet):
+        batch = planet.yard[0]
+        planet.units[batch.unit] += 1
+        batch.left -= 1
+        batch.second += batch.each
+        self.seen[batch.unit + " done"] += 1
+        if batch.left == 0:
+            planet.yard.pop(0)
+            self.start_batch(planet)
+
+    def start_batch(self, planet):
+        if planet.yard:
+            batch = planet.yard[0]
+            batch.each = self.unit_time(planet, batch.unit)
+            batch.second = self.moment + batch.each
+
+    # Requests. Each gives the lines of its reply or is refused.
+
+    def own_planet(self, player, place):
+        planet = self.planets.get(place)
+        refuse_first([(1, player not in self.accounts), (2, planet is None)])
+        refuse_first([(3, planet.owner != player)])
+        return planet
+
+    def ask_planet(self, player, place):
+        return self.planet_lines(self.own_planet(player, place))
+
+    def ask_account(self, player):
+        refuse_first([(1, player not in self.accounts)])
+        return self.account_lines(self.accounts[player])
+
+    def set_work(self, player, place, work, tenths):
+        self.own_planet(player, place).tenths[work] = tenths
+        return []
+
+    def order_building(self, number, player, place, word):
+        planet = self.own_planet(player, place)
+        queue, level = planet.buildings, planet.levels[word]
+        queued = sum(item.kind == word for item in queue)
+        refuse_first([
+            (4, len(queue) >= QUEUE_LENGTH),
+            (5, level + queued >= KINDS[word].cap),
+            (6, self.lacks_needs(planet, word)),
+            (7, planet.used() + len(queue) >= planet.fields),
+            (12, not queue and not planet.can_pay(KINDS[word].cost(level + 1))),
+        ])
+        queue.append(Item(number, word, place))
+        if len(queue) > 1:
+            return [f"waits {len(queue)}"]
+        self.start_building(planet)
+        return [f"starts {queue[0].level} {queue[0].second}"]
+
+    def order_research(self, number, player, place, word):
+        planet = self.own_planet(player, place)
+        account = self.accounts[player]
+        queue, level = account.research, account.levels[word]
+        queued = sum(item.kind == word for item in queue)
+        dark = word == "graviton" and planet.energy_given() < GRAVITON_ENERGY
+        refuse_first([
+            (4, len(queue) >= QUEUE_LENGTH),
+            (5, level + queued >= KINDS[word].cap),
+            (6, self.lacks_needs(planet, word) or dark),
+            (12, not queue and not planet.can_pay(KINDS[word].cost(level + 1))),
+        ])
+        queue.append(Item(number, word, place))
+        if len(queue) > 1:
+            return [f"waits {len(queue)}"]
+        self.start_research(account)
+        return [f"starts {queue[0].level} {queue[0].second}"]
+
+    def order_units(self, number, player, place, unit, count):
+        planet = self.own_planet(player, place)
+        queue = planet.yard
+        price = [count * part for part in KINDS[unit].cost(1)]
+        domes = planet.units[unit] + planet.ordered(unit) + count
+        refuse_first([
+            (4, len(queue) >= QUEUE_LENGTH),
+            (5, unit in DOMES and domes > 1),
+            (6, self.lacks_needs(planet, unit)),
+            (12, not planet.can_pay(price)),
+            (17, self.units_of(player) + count > MOST_UNITS),
+        ])
+        planet.pay(price)
+        queue.append(Batch(number, unit, count))
+        if len(queue) > 1:
+            return [f"waits {len(queue)}"]
+        self.start_batch(planet)
+        return [f"starts {count} {queue[0].second}"]
+
+    # The lines of replies.
+
+    def planets_of(self, player):
+        return [planet for _, planet in sorted(self.planets.items()) if planet.owner == player]
+
+    def units_of(self, player):
+        return sum(planet.all_units() for planet in self.planets_of(player))
+
+    def planet_lines(self, planet):
+        given_and_needed = [planet.energy_given(), planet.energy_needed()]
+        return [
+            line("planet", text(planet.place), planet.owner, planet.temperature, planet.fields, planet.used()),
+            line("stock", *planet.stock()),
+            line("hourly", *planet.hourly(self.speed)),
+            line("limit", *planet.limits()),
+            line("energy", *given_and_needed),
+            line("debris", 0, 0),
+            *(line("level", word, planet.levels[word]) for word in BUILDINGS if planet.levels[word]),
+            *(line("set", work, planet.tenths[work]) for work in WORKS if planet.tenths[work] != 10),
+            *(line("units", unit, planet.units[unit]) for unit in UNITS if planet.units[unit]),
+            *(line("building", item.number, item.kind, item.level, item.second) for item in planet.buildings[:1]),
+            *(line("waiting", item.number, item.kind) for item in planet.buildings[1:]),
+            *(line("yard", batch.number, batch.unit, batch.left, batch.second) for batch in planet.yard[:1]),
+            *(line("yardwaiting", batch.number, batch.unit, batch.left) for batch in planet.yard[1:]),
+        ]
+
+    def account_lines(self, account):
+        first, later = account.research[:1], account.research[1:]
+        return [
+            line("account", account.player, self.units_of(account.player), 0, 1 + account.levels["computer"]),
+            *(line("tech", word, account.levels[word]) for word in TECHNOLOGIES if account.levels[word]),
+            *(line("planet", text(planet.place)) for planet in self.planets_of(account.player)),
+            *(line("research", item.number, item.kind, item.level, item.second, text(item.place)) for item in first),
+            *(line("waiting", item.number, item.kind, text(item.place)) for item in later),
+        ]
+
+
+def line(*words):
+    return " ".join(map(str, words))
+
+
+def text(place):
+    return ":".join(map(str, place))
