@@ -1,0 +1,6 @@
+pub mod Start
+pub mod History
+pub mod Claims
+pub mod Views
+pub mod Rule
+pub mod Steps
