@@ -5,12 +5,12 @@ use Rattle.std.proofs.lemmas.List.{append-nil, map-append}
 use Rattle.std.proofs.lemmas.List.Elements.{Contains-append_cases, filter-append, All-push}
 use Rattle.request_text.specs.declared.entry.Entry.{Entry}
 use Rattle.fronts.specs.declared.claim.Claim.{Claim}
-use Rattle.fronts.specs.declared.claim.Claim.TheVariants.{Pen, Flush, Number, Cell}
+use Rattle.fronts.specs.declared.claim.Claim.TheVariants.{Pen, Number}
 use Rattle.fronts.specs.declared.view.Sent.{Sent}
 use Rattle.fronts.specs.Start.{Start}
 use Rattle.fronts.specs.History.{IsBounded, IsHistory, calls_by, entries_of, found_by, sent}
 use Rattle.fronts.specs.Claims.{Concerns, Follows, IsQuiet}
-use Rattle.fronts.proofs.Listed.{begins_longer, contains_none, goes_on_by_none}
+use Rattle.fronts.proofs.Listed.{all_tail, begins_longer, contains_none, goes_on_by_none}
 
 module _ (start : Start) where
   pub quiet_none : (xs ys : List Sent) → IsQuiet start [] xs ys
@@ -114,6 +114,14 @@ module _ (start : Start) where
       let p : Sent → Bool = λ s. s.pass == n in
       let all : filter p ys ≡ filter p xs = sym (ap (filter p) f.begins) ∙ filter-append p xs f.later ∙ ap (λ l. filter p xs ++ l) (no_calls cs n xs f.later h f.quiet) ∙ append-nil (filter p xs) in
       ap entries_of all
+
+-- a number above those of all entries has no calls
+pub no_calls_yet : (n : ℕ) (xs : List Sent) → All (λ s. s.pass < n) xs → calls_by n xs ≡ []
+no_calls_yet n [] h = refl
+no_calls_yet n (s ∷ xs) h =
+    let less : s.pass < n = h 0 s (omega arith) in
+    let off : (s.pass == n) ≡ false = ne_eqb s.pass n (λ e. omega arith) in
+    rw off (no_calls_yet n xs (all_tail (λ (x : Sent). x.pass < n) s xs h))
 
 pub entries_more : (xs : List Sent) (s : Sent) → entries_of (xs ++ s ∷ []) ≡ entries_of xs ++ s.entry ∷ []
 entries_more xs s = map-append (λ (x : Sent). x.entry) xs (s ∷ [])

@@ -1,6 +1,6 @@
 -- Each step of one view keeps the rule.
-use Rattle.std.proofs.Common.{◌≡◌, ◌≢◌, ◌⊎◌, ℕ, zero, suc, ◌+◌, ◌-◌, ◌%◌, ◌^◌, ◌<◌, ◌≤◌, List, [], ◌∷◌, ◌++◌, length, set, inl, inr, ⊎_elim, refl, sym, ap, ◌∙◌, subst, arith, length-append}
-use Rattle.std.specs.Prelude.{All, Contains, map, slice_index, slice_set, sum_by, true}
+use Rattle.std.proofs.Common.{◌≡◌, ◌≢◌, ℕ, ◌+◌, ◌%◌, ◌^◌, ◌<◌, ◌≤◌, List, [], ◌∷◌, ◌++◌, length, set, refl, sym, ap, ◌∙◌, subst, arith, length-append}
+use Rattle.std.specs.Prelude.{All, Contains, slice_index, slice_set, true}
 use Rattle.std.proofs.lemmas.List.Elements.{All-push}
 use Rattle.std.proofs.lemmas.List.{length-map}
 use mathlib.Core.Option.{some, none}
@@ -13,13 +13,13 @@ use Rattle.fronts.specs.declared.claim.Claim.TheVariants.{Pen, Flush, Number, Ce
 use Rattle.fronts.specs.declared.view.Sent.{Sent}
 use Rattle.fronts.specs.declared.view.View.{View}
 use Rattle.fronts.specs.Start.{Start}
-use Rattle.fronts.specs.History.{IsBounded, IsHistory, entries_of, sent}
+use Rattle.fronts.specs.History.{IsBounded, IsHistory, calls_by, entries_of, sent}
 use Rattle.fronts.specs.Claims.{Concerns, Follows}
 use Rattle.fronts.specs.Views.{appended, marked, with_durable, with_front}
 use Rattle.fronts.specs.Rule.{Counts, Holds, IsKept, Sees}
 use Rattle.fronts.specs.Steps.{Appends, Hears, Looks, Marks, Reads, Settles}
-use Rattle.fronts.proofs.Listed.{contains_none, each_set, sum_set}
-use Rattle.fronts.proofs.Following.{entries_more, follows_more, follows_none, follows_self, follows_within, history_more, pen_sees_all}
+use Rattle.fronts.proofs.Listed.{all_front, contains_none, each_set, sum_set}
+use Rattle.fronts.proofs.Following.{follows_more, follows_none, follows_self, follows_within, history_more, no_calls_yet, pen_sees_all}
 
 module _ (start : Start) where
   -- the rule after a step on the first word, and on the second
@@ -107,13 +107,17 @@ module _ (start : Start) where
   hear {S} slots id me s holds long at within =
       let k = holds.kept in
       let mine = k.sees id me.0 at in
+      let unused : me.0.next ≢ 0 → calls_by me.0.next me.0.front ≡ [] = λ may.
+      let P : Sent → Type 0 = λ s. s.pass < me.0.next in
+      let before : All P k.history = subst (λ m. All (λ (s : Sent). s.pass < m) k.history) (sym (mine.gives may).1) k.numbers in
+      no_calls_yet me.0.next me.0.front (all_front P me.0.front mine.seen.later (subst (All P) (sym mine.seen.begins) before)) in
       let w = with_front me.0 me.0.front in (
         w,
         keeps,
         tt,
         first_word s holds (λ n. n) id me.1 w
             (changed holds.count holds.durable s.views k id me.0 w at refl (sees_less k.history k.owner k.giver k.next id me.0 mine) (same_counts holds.durable k.given me.0 w refl refl refl (k.counts id me.0 at))),
-        record { view = refl; slots = refl; follows = λ less. follows_within start me.0.kept me.0.claims me.0.heard me.0.front k.history mine.heard mine.seen less },
+        record { view = refl; slots = refl; unused = unused; follows = λ less. follows_within start me.0.kept me.0.claims me.0.heard me.0.front k.history mine.heard mine.seen less },
       )
 
   pub read : {S : Type 0} (slots id : ℕ) (me : Me S View) → Allows (Holds start) slots id me 1 (λ n. n) (Reads (step slots 1 0 0 none) me)
@@ -128,8 +132,8 @@ module _ (start : Start) where
         tt,
         second_word s holds (λ n. n) id me.1 w
             (changed holds.count holds.durable s.views k id me.0 w at refl
-                (record { seen = mine.seen; heard = mine.heard; keeps = mine.keeps; owns = mine.owns; numbers = mine.numbers; gives = mine.gives })
-                (record { no_more = omega arith; no_more_marks = counts.no_more_marks; pen = λ h. found; flush = λ h. (found, (counts.flush h).1) })),
+            (record { seen = mine.seen; heard = mine.heard; keeps = mine.keeps; owns = mine.owns; numbers = mine.numbers; gives = mine.gives })
+            (record { no_more = omega arith; no_more_marks = counts.no_more_marks; pen = λ h. found; flush = λ h. (found, (counts.flush h).1) })),
         record { view = refl; slots = refl; least = omega (arith, counts.no_more) },
       )
 
@@ -145,7 +149,7 @@ module _ (start : Start) where
         → Sees start history owner giver next j u → Sees start (v.front ++ sent v.number entry ∷ []) owner giver next j u
     passes_by history owner giver next id j u all mine apart theirs =
         let still : (cs : List Claim) (xs : List Sent) → ((c : Claim) → Contains cs c → Contains u.claims c) → Follows start cs xs history → Follows start cs xs (v.front ++ sent v.number entry ∷ []) = λ cs xs within f.
-            follows_more start cs xs v.front (sent v.number entry) (subst (Follows start cs xs) (sym all) f) (λ c h x. apart (sym (theirs.owns c (within c h)) ∙ mine.owns c (has_all c x))) in record {
+        follows_more start cs xs v.front (sent v.number entry) (subst (Follows start cs xs) (sym all) f) (λ c h x. apart (sym (theirs.owns c (within c h)) ∙ mine.owns c (has_all c x))) in record {
           seen = still u.claims u.front (λ c h. h) theirs.seen;
           heard = still u.kept u.heard theirs.keeps theirs.heard;
           keeps = theirs.keeps;
@@ -236,10 +240,10 @@ module _ (start : Start) where
             (record { seen = mine.seen; heard = mine.heard; keeps = mine.keeps; owns = mine.owns; numbers = mine.numbers; gives = mine.gives });
         counts = each_set (λ j u. Counts ((d + more) % 2 ^ 64) k.given u) views id w
             (λ j u apart e. let theirs = k.sees j u e in
-                other_counts d ((d + more) % 2 ^ 64) k.given k.given u grew (omega arith)
-                    (λ h. absurd (apart (sym (theirs.owns Pen h) ∙ mine.owns Pen pen)))
-                    (λ h. absurd (apart (sym (theirs.owns Flush h) ∙ mine.owns Flush flush)))
-                    (k.counts j u e))
+            other_counts d ((d + more) % 2 ^ 64) k.given k.given u grew (omega arith)
+            (λ h. absurd (apart (sym (theirs.owns Pen h) ∙ mine.owns Pen pen)))
+            (λ h. absurd (apart (sym (theirs.owns Flush h) ∙ mine.owns Flush flush)))
+            (k.counts j u e))
             (record { no_more = omega (arith, now); no_more_marks = counts.no_more_marks; pen = λ h. sym now; flush = λ h. (sym now, (counts.flush h).1) });
       }
 
@@ -274,9 +278,9 @@ module _ (start : Start) where
             (record { seen = mine.seen; heard = mine.heard; keeps = mine.keeps; owns = mine.owns; numbers = mine.numbers; gives = mine.gives });
         counts = each_set (λ j u. Counts d (k.given + 1) u) views id w
             (λ j u apart e. let theirs = k.sees j u e in
-                other_counts d d k.given (k.given + 1) u (omega arith) (omega arith) (λ h. refl)
-                    (λ h. absurd (apart (sym (theirs.owns Flush h) ∙ mine.owns Flush flush)))
-                    (k.counts j u e))
+            other_counts d d k.given (k.given + 1) u (omega arith) (omega arith) (λ h. refl)
+            (λ h. absurd (apart (sym (theirs.owns Flush h) ∙ mine.owns Flush flush)))
+            (k.counts j u e))
             (record { no_more = counts.no_more; no_more_marks = omega (arith, known); pen = counts.pen; flush = λ h. ((counts.flush h).0, ap (λ (x : ℕ). x + 1) known) });
       }
 

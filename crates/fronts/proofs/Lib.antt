@@ -4,3 +4,7 @@ pub mod Owning
 pub mod Keeping
 pub mod Parting
 pub mod Uniting
+pub mod Opening
+pub mod TokenSteps
+pub mod Closing
+pub mod Standing

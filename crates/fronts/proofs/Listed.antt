@@ -1,7 +1,6 @@
 -- Lists: what they contain, and what is true of each element that is found by its place.
 use Rattle.std.proofs.Common.{◌≡◌, ◌≢◌, ◌⊎◌, ℕ, zero, suc, ◌+◌, ◌<◌, ◌≤◌, List, [], ◌∷◌, ◌++◌, length, set, inl, inr, ⊎_elim, refl, sym, ap, ◌∙◌, subst, arith}
 use Rattle.std.specs.Prelude.{All, Contains, sum_by}
-use Rattle.std.proofs.lemmas.List.{append-nil}
 use Rattle.std.proofs.lemmas.List.Sums.{sum_by-append, sum_by-cons}
 use mathlib.Core.Option.{some, some-injective, some-ne-none}
 use lib.ListN.{get_elem?}
@@ -95,3 +94,8 @@ module _ {A : Type 0} where
   pub all_rest : (P : A → Type 0) (xs ys : List A) → All P (xs ++ ys) → All P ys
   all_rest P [] ys h = h
   all_rest P (x ∷ xs) ys h = all_rest P xs ys (all_tail P x (xs ++ ys) h)
+
+  pub all_front : (P : A → Type 0) (xs ys : List A) → All P (xs ++ ys) → All P xs
+  all_front P [] ys h k d less = absurd (omega arith)
+  all_front P (x ∷ xs) ys h zero d less = h zero d (omega arith)
+  all_front P (x ∷ xs) ys h (suc k) d less = all_front P xs ys (all_tail P x (xs ++ ys) h) k d (omega arith)

@@ -1,6 +1,6 @@
 -- Claims: when two are one, and what is left of a list without one.
-use Rattle.std.proofs.Common.{◌≡◌, ◌≢◌, ◌⊎◌, ℕ, Bool, true, false, not, List, [], ◌∷◌, ◌++◌, map, inl, inr, ⊎_elim, refl, sym, ap, ◌∙◌, subst, arith}
-use Rattle.std.specs.Prelude.{Contains, filter, if◌then◌else◌}
+use Rattle.std.proofs.Common.{◌≡◌, ℕ, Bool, true, false, List, [], ◌∷◌, ⊎_elim, refl, sym, ap, ◌∙◌, subst, arith}
+use Rattle.std.specs.Prelude.{Contains, if◌then◌else◌}
 use Rattle.std.proofs.lemmas.Bool.Decides.{nat_tests}
 use Rattle.base_ids.proofs.Names.{coord_is, player_is}
 use Rattle.base_ids.specs.Cells.{same_cell}
@@ -95,6 +95,6 @@ module _ (claim : Claim) where
       on false e further =
           subst (λ (l : List Claim). Contains l c) (sym (without_keeps d cs e))
           (⊎_elim
-              (λ (same : d ≡ c). subst (λ x. Contains (d ∷ without claim cs) x) same (contains_head d (without claim cs)))
-              (λ (t : Contains cs c). contains_tail c d (without claim cs) (further t))
-              (contains_cases c d cs h))
+          (λ (same : d ≡ c). subst (λ x. Contains (d ∷ without claim cs) x) same (contains_head d (without claim cs)))
+          (λ (t : Contains cs c). contains_tail c d (without claim cs) (further t))
+          (contains_cases c d cs h))

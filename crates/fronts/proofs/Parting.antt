@@ -1,12 +1,12 @@
 -- A view is cut in two, and the rule is kept.
-use Rattle.std.proofs.Common.{◌≡◌, ◌≢◌, ◌⊎◌, ℕ, ◌+◌, ◌-◌, ◌<◌, ◌≤◌, List, [], ◌∷◌, ◌++◌, length, set, inl, inr, ⊎_elim, refl, sym, ap, ◌∙◌, subst, arith}
-use Rattle.std.specs.Prelude.{All, Contains, slice_set, sum_by}
+use Rattle.std.proofs.Common.{◌≡◌, ◌≢◌, ℕ, ◌+◌, ◌<◌, List, [], ◌∷◌, ◌++◌, length, set, ⊎_elim, refl, sym, ap, ◌∙◌, subst, arith}
+use Rattle.std.specs.Prelude.{All, Contains}
 use Rattle.std.proofs.lemmas.List.Elements.{All-weaker}
 use mathlib.Core.Option.{some}
 use lib.ListN.{get_elem?}
-use Rattle.atomic_table.specs.Table.{Splits, State}
+use Rattle.atomic_table.specs.Table.{Splits}
 use Rattle.fronts.specs.declared.claim.Claim.{Claim}
-use Rattle.fronts.specs.declared.claim.Claim.TheVariants.{Pen, Flush, Number, Cell}
+use Rattle.fronts.specs.declared.claim.Claim.TheVariants.{Pen, Flush, Number}
 use Rattle.fronts.specs.declared.view.Sent.{Sent}
 use Rattle.fronts.specs.declared.view.View.{View}
 use Rattle.fronts.specs.Start.{Start}
@@ -111,41 +111,41 @@ module _ (start : Start) where
       let owner = given_to (Number v.next) (length views) k.owner in
       let more : (m : ℕ) → m < k.next → m < k.next + 1 = λ m less. omega arith in
       let owned : (j : ℕ) (u : View) → Sees start k.history k.owner k.giver k.next j u → (c : Claim) → Contains u.claims c → owner c ≡ j =
-          λ j u s c h. given_else (Number v.next) (length views) k.owner c (λ same. let less = s.numbers v.next (subst (Contains u.claims) (sym same) h) in let is = gives.1 in omega arith) ∙ s.owns c h in
+      λ j u s c h. given_else (Number v.next) (length views) k.owner c (λ same. let less = s.numbers v.next (subst (Contains u.claims) (sym same) h) in let is = gives.1 in omega arith) ∙ s.owns c h in
       let fresh : Follows start (Number v.next ∷ []) v.front k.history = record {
         later = mine.seen.later;
         begins = mine.seen.begins;
         quiet = new_number_quiet v.next v.front mine.seen.later (all_rest (λ (s : Sent). s.pass < v.next) v.front mine.seen.later (subst (All (λ (s : Sent). s.pass < v.next)) (sym mine.seen.begins) (subst (λ m. All (λ (s : Sent). s.pass < m) k.history) (sym gives.1) k.numbers)));
       } in
       parted n d views k id v (with_pass_given v) (new_pass v) owner (k.next + 1) at (omega arith)
-          (All-weaker (λ (s : Sent). s.pass < k.next) (λ (s : Sent). s.pass < k.next + 1) (λ s less. omega arith) k.history k.numbers)
-          (λ j u apart e. let theirs = k.sees j u e in
-              record {
-                seen = theirs.seen;
-                heard = theirs.heard;
-                keeps = theirs.keeps;
-                owns = owned j u theirs;
-                numbers = λ m h. more m (theirs.numbers m h);
-                gives = λ some. absurd (apart ((theirs.gives some).0 ∙ sym gives.0));
-              })
-          (record {
-            seen = mine.seen;
-            heard = mine.heard;
-            keeps = mine.keeps;
-            owns = owned id v mine;
-            numbers = λ m h. more m (mine.numbers m h);
-            gives = λ some. (gives.0, ap (λ (m : ℕ). m + 1) gives.1);
-          })
-          (cut_off_sees k.history owner k.giver (k.next + 1) (length views) v v.next 0 (Number v.next ∷ []) fresh
-              (λ c h. ⊎_elim (λ (same : Number v.next ≡ c). subst (λ x. owner x ≡ length views) same (given_here (Number v.next) (length views) k.owner)) (λ (t : Contains [] c). absurd (contains_none c t)) (contains_cases c (Number v.next) [] h))
-              (λ m h. ⊎_elim (λ (same : Number v.next ≡ Number m). let is : v.next ≡ m = cc same in let known = gives.1 in omega arith) (λ (t : Contains [] (Number m)). absurd (contains_none (Number m) t)) (contains_cases (Number m) (Number v.next) [] h)))
-          (record { no_more = counts.no_more; no_more_marks = counts.no_more_marks; pen = counts.pen; flush = counts.flush })
-          (record {
-            no_more = counts.no_more;
-            no_more_marks = counts.no_more_marks;
-            pen = λ h. ⊎_elim (λ (same : Number v.next ≡ Pen). absurd (cc same)) (λ (t : Contains [] Pen). absurd (contains_none Pen t)) (contains_cases Pen (Number v.next) [] h);
-            flush = λ h. ⊎_elim (λ (same : Number v.next ≡ Flush). absurd (cc same)) (λ (t : Contains [] Flush). absurd (contains_none Flush t)) (contains_cases Flush (Number v.next) [] h);
-          })
+      (All-weaker (λ (s : Sent). s.pass < k.next) (λ (s : Sent). s.pass < k.next + 1) (λ s less. omega arith) k.history k.numbers)
+      (λ j u apart e. let theirs = k.sees j u e in
+      record {
+        seen = theirs.seen;
+        heard = theirs.heard;
+        keeps = theirs.keeps;
+        owns = owned j u theirs;
+        numbers = λ m h. more m (theirs.numbers m h);
+        gives = λ some. absurd (apart ((theirs.gives some).0 ∙ sym gives.0));
+      })
+      (record {
+        seen = mine.seen;
+        heard = mine.heard;
+        keeps = mine.keeps;
+        owns = owned id v mine;
+        numbers = λ m h. more m (mine.numbers m h);
+        gives = λ some. (gives.0, ap (λ (m : ℕ). m + 1) gives.1);
+      })
+      (cut_off_sees k.history owner k.giver (k.next + 1) (length views) v v.next 0 (Number v.next ∷ []) fresh
+      (λ c h. ⊎_elim (λ (same : Number v.next ≡ c). subst (λ x. owner x ≡ length views) same (given_here (Number v.next) (length views) k.owner)) (λ (t : Contains [] c). absurd (contains_none c t)) (contains_cases c (Number v.next) [] h))
+      (λ m h. ⊎_elim (λ (same : Number v.next ≡ Number m). let is : v.next ≡ m = cc same in let known = gives.1 in omega arith) (λ (t : Contains [] (Number m)). absurd (contains_none (Number m) t)) (contains_cases (Number m) (Number v.next) [] h)))
+      (record { no_more = counts.no_more; no_more_marks = counts.no_more_marks; pen = counts.pen; flush = counts.flush })
+      (record {
+        no_more = counts.no_more;
+        no_more_marks = counts.no_more_marks;
+        pen = λ h. ⊎_elim (λ (same : Number v.next ≡ Pen). absurd (cc same)) (λ (t : Contains [] Pen). absurd (contains_none Pen t)) (contains_cases Pen (Number v.next) [] h);
+        flush = λ h. ⊎_elim (λ (same : Number v.next ≡ Flush). absurd (cc same)) (λ (t : Contains [] Flush). absurd (contains_none Flush t)) (contains_cases Flush (Number v.next) [] h);
+      })
 
   pub split : {S : Type 0} (id : ℕ) (v : View) → v.next ≢ 0 → Splits {S = S} (Holds start) id v (with_pass_given v) (new_pass v)
   split {S} id v may s h at = record { count = h.count; durable = h.durable; words = h.words; kept = new_pass_kept h.count h.durable s.views h.kept id v at may }
@@ -157,31 +157,31 @@ module _ (start : Start) where
       let counts = k.counts id v at in
       let owner = given_to claim (length views) k.owner in
       let within : (c : Claim) → Contains (claim ∷ []) c → Contains v.claims c =
-          λ c h. ⊎_elim (λ (same : claim ≡ c). subst (Contains v.claims) same has) (λ (t : Contains [] c). absurd (contains_none c t)) (contains_cases c claim [] h) in
+      λ c h. ⊎_elim (λ (same : claim ≡ c). subst (Contains v.claims) same has) (λ (t : Contains [] c). absurd (contains_none c t)) (contains_cases c claim [] h) in
       let left : (c : Claim) → Contains (without claim v.claims) c → Contains v.claims c = λ c h. (left_in claim v.claims c h).0 in
       parted n d views k id v (with_claim_given claim v) (note_with v (claim ∷ [])) owner k.next at (omega arith) k.numbers
-          (λ j u apart e. let theirs = k.sees j u e in
-              record {
-                seen = theirs.seen;
-                heard = theirs.heard;
-                keeps = theirs.keeps;
-                owns = λ c h. given_else claim (length views) k.owner c (λ same. apart (sym (theirs.owns claim (subst (Contains u.claims) (sym same) h)) ∙ mine.owns claim has)) ∙ theirs.owns c h;
-                numbers = theirs.numbers;
-                gives = theirs.gives;
-              })
-          (record {
-            seen = follows_fewer start v.claims (without claim v.claims) v.front k.history left mine.seen;
-            heard = follows_none start k.history;
-            keeps = λ c h. absurd (contains_none c h);
-            owns = λ c h. given_else claim (length views) k.owner c (left_in claim v.claims c h).1 ∙ mine.owns c (left c h);
-            numbers = λ m h. mine.numbers m (left (Number m) h);
-            gives = mine.gives;
-          })
-          (cut_off_sees k.history owner k.giver k.next (length views) v 0 0 (claim ∷ []) (follows_fewer start v.claims (claim ∷ []) v.front k.history within mine.seen)
-              (λ c h. ⊎_elim (λ (same : claim ≡ c). subst (λ x. owner x ≡ length views) same (given_here claim (length views) k.owner)) (λ (t : Contains [] c). absurd (contains_none c t)) (contains_cases c claim [] h))
-              (λ m h. mine.numbers m (within (Number m) h)))
-          (record { no_more = counts.no_more; no_more_marks = counts.no_more_marks; pen = λ h. counts.pen (left Pen h); flush = λ h. counts.flush (left Flush h) })
-          (record { no_more = counts.no_more; no_more_marks = counts.no_more_marks; pen = λ h. counts.pen (within Pen h); flush = λ h. counts.flush (within Flush h) })
+      (λ j u apart e. let theirs = k.sees j u e in
+      record {
+        seen = theirs.seen;
+        heard = theirs.heard;
+        keeps = theirs.keeps;
+        owns = λ c h. given_else claim (length views) k.owner c (λ same. apart (sym (theirs.owns claim (subst (Contains u.claims) (sym same) h)) ∙ mine.owns claim has)) ∙ theirs.owns c h;
+        numbers = theirs.numbers;
+        gives = theirs.gives;
+      })
+      (record {
+        seen = follows_fewer start v.claims (without claim v.claims) v.front k.history left mine.seen;
+        heard = follows_none start k.history;
+        keeps = λ c h. absurd (contains_none c h);
+        owns = λ c h. given_else claim (length views) k.owner c (left_in claim v.claims c h).1 ∙ mine.owns c (left c h);
+        numbers = λ m h. mine.numbers m (left (Number m) h);
+        gives = mine.gives;
+      })
+      (cut_off_sees k.history owner k.giver k.next (length views) v 0 0 (claim ∷ []) (follows_fewer start v.claims (claim ∷ []) v.front k.history within mine.seen)
+      (λ c h. ⊎_elim (λ (same : claim ≡ c). subst (λ x. owner x ≡ length views) same (given_here claim (length views) k.owner)) (λ (t : Contains [] c). absurd (contains_none c t)) (contains_cases c claim [] h))
+      (λ m h. mine.numbers m (within (Number m) h)))
+      (record { no_more = counts.no_more; no_more_marks = counts.no_more_marks; pen = λ h. counts.pen (left Pen h); flush = λ h. counts.flush (left Flush h) })
+      (record { no_more = counts.no_more; no_more_marks = counts.no_more_marks; pen = λ h. counts.pen (within Pen h); flush = λ h. counts.flush (within Flush h) })
 
   pub give : {S : Type 0} (id : ℕ) (v : View) (claim : Claim) → Contains v.claims claim → Splits {S = S} (Holds start) id v (with_claim_given claim v) (note_with v (claim ∷ []))
   give {S} id v claim has s h at = record { count = h.count; durable = h.durable; words = h.words; kept = give_kept h.count h.durable s.views h.kept id v claim at has }

@@ -1,18 +1,16 @@
 -- Two views become one, and the rule is kept; and the rule at the start and at the end.
-use Rattle.std.proofs.Common.{◌≡◌, ◌≢◌, ◌⊎◌, ℕ, ◌+◌, ◌<◌, ◌≤◌, Bool, true, false, List, [], ◌∷◌, ◌++◌, length, map, set, inl, inr, ⊎_elim, refl, sym, ap, ◌∙◌, subst, arith, eq-eqb, ne_eqb}
-use Rattle.std.specs.Prelude.{All, Contains, slice_set, sum_by, max, nat_lt, ◌==◌, if◌then◌else◌}
+use Rattle.std.proofs.Common.{◌≡◌, ◌≢◌, ℕ, ◌+◌, ◌<◌, ◌≤◌, Bool, true, false, List, ◌++◌, length, set, ⊎_elim, refl, sym, ◌∙◌, subst, arith, eq-eqb, ne_eqb}
+use Rattle.std.specs.Prelude.{Contains, sum_by, nat_lt, ◌==◌, if◌then◌else◌}
 use Rattle.std.proofs.lemmas.List.Elements.{Contains-append_cases, Contains-append_left, Contains-append_right}
 use Rattle.std.proofs.lemmas.Bool.Decides.{nat_tests}
-use mathlib.Core.Option.{some, some-injective, some-ne-none}
+use mathlib.Core.Option.{some}
 use lib.ListN.{get_elem?}
-use Rattle.atomic_table.specs.Table.{Joins, State}
+use Rattle.atomic_table.specs.Table.{Joins}
 use Rattle.atomic_table.proofs.Lists.{at_set}
 use Rattle.fronts.specs.declared.claim.Claim.{Claim}
 use Rattle.fronts.specs.declared.claim.Claim.TheVariants.{Pen, Flush, Number}
-use Rattle.fronts.specs.declared.view.Sent.{Sent}
 use Rattle.fronts.specs.declared.view.View.{View}
 use Rattle.fronts.specs.Start.{Start}
-use Rattle.fronts.specs.Claims.{Follows}
 use Rattle.fronts.specs.Views.{as_one, both, spent}
 use Rattle.fronts.specs.Rule.{Counts, Holds, IsKept, Sees}
 use Rattle.fronts.proofs.Listed.{contains_none, sum_set}
@@ -149,10 +147,10 @@ module _ (start : Start) where
         ⊎_elim
         (λ (t : (j ≡ other) × (spent ≡ u)). subst (λ m. P m u) (sym t.0) (subst (P other) t.1 gone))
         (λ (t : (j ≢ other) × (get_elem? (set views id one) j ≡ some u)).
-            ⊎_elim
-            (λ (x : (j ≡ id) × (one ≡ u)). subst (λ m. P m u) (sym x.0) (subst (P id) x.1 here))
-            (λ (x : (j ≢ id) × (get_elem? views j ≡ some u)). others j u t.0 x.1)
-            (at_set views id j one u t.1))
+        ⊎_elim
+        (λ (x : (j ≡ id) × (one ≡ u)). subst (λ m. P m u) (sym x.0) (subst (P id) x.1 here))
+        (λ (x : (j ≢ id) × (get_elem? views j ≡ some u)). others j u t.0 x.1)
+        (at_set views id j one u t.1))
         (at_set (set views id one) other j spent u e)
 
     marks_stay : get_elem? (set views id one) other ≡ some w → sum_by (λ (u : View). u.marks) (set (set views id one) other spent) ≡ k.given
@@ -181,7 +179,7 @@ module _ (start : Start) where
   pub join : {S : Type 0} (id : ℕ) (v : View) (other : ℕ) (w : View) → Joins {S = S} (Holds start) id v other w (both v w) spent
   join {S} id v other w s h at apart still =
       let there : get_elem? s.views other ≡ some w =
-          ⊎_elim (λ (t : (other ≡ id) × (both v w ≡ w)). absurd (apart t.0)) (λ (t : (other ≢ id) × (get_elem? s.views other ≡ some w)). t.1) (at_set s.views id other (both v w) w still) in record {
+      ⊎_elim (λ (t : (other ≡ id) × (both v w ≡ w)). absurd (apart t.0)) (λ (t : (other ≢ id) × (get_elem? s.views other ≡ some w)). t.1) (at_set s.views id other (both v w) w still) in record {
         count = h.count;
         durable = h.durable;
         words = h.words;

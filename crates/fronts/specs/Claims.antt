@@ -1,6 +1,5 @@
 -- Claims, and the entries that they concern.
-use Rattle.std.specs.Prelude.{◌≡◌, ℕ, List, [], ◌∷◌, ◌++◌, true, Contains}
-use Rattle.base_ids.specs.declared.cell_id.CellId.{CellId}
+use Rattle.std.specs.Prelude.{◌≡◌, List, [], ◌∷◌, ◌++◌, true, Contains}
 use Rattle.fronts.specs.declared.claim.Claim.{Claim}
 use Rattle.fronts.specs.declared.claim.Claim.TheVariants.{Pen, Flush, Number, Cell}
 use Rattle.fronts.specs.declared.view.Sent.{Sent}

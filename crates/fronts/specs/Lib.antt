@@ -4,3 +4,8 @@ pub mod Claims
 pub mod Views
 pub mod Rule
 pub mod Steps
+pub mod Tokens
+pub mod Samples
+pub mod Calls
+pub mod Ends
+pub mod Laws

@@ -1,11 +1,10 @@
 -- What each step on a word tells its caller: of the view before, the number that was found, and the view after.
-use Rattle.std.specs.Prelude.{◌≡◌, ℕ, ◌+◌, ◌≤◌, List, [], length}
+use Rattle.std.specs.Prelude.{◌≡◌, ◌≢◌, ℕ, ◌+◌, ◌≤◌, [], length}
 use Rattle.atomic_table.specs.Table.{Step, Me}
 use Rattle.request_text.specs.declared.entry.Entry.{Entry}
-use Rattle.fronts.specs.declared.view.Sent.{Sent}
 use Rattle.fronts.specs.declared.view.View.{View}
 use Rattle.fronts.specs.Start.{Start}
-use Rattle.fronts.specs.History.{IsHistory}
+use Rattle.fronts.specs.History.{IsHistory, calls_by}
 use Rattle.fronts.specs.Claims.{Follows}
 use Rattle.fronts.specs.Views.{appended, marked, with_durable, with_front}
 
@@ -23,6 +22,8 @@ module _ {S : Type 0} where
     pub view : after.0 ≡ with_front me.0 me.0.front
     pub slots : after.1 ≡ me.1
     pub follows : length me.0.heard ≤ length me.0.front → Follows start me.0.kept me.0.heard me.0.front
+    -- nobody has called under the number that it may give next
+    pub unused : me.0.next ≢ 0 → calls_by me.0.next me.0.front ≡ []
 
   -- an entry was appended to all that there was
   pub record Appends (entry : Entry) (step : Step S) (me : Me S View) (found : ℕ) (after : Me S View) : Type 0 where

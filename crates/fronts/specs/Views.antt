@@ -99,3 +99,17 @@ as_one shorter v w = record {
 
 abbrev pub both : View → View → View
 both v w = as_one (nat_lt (length v.front) (length w.front)) v w
+
+-- and after that
+abbrev pub united : View → View → View
+united v w = with_front (both v w) (both v w).front
+
+-- a view that has met another one: it has seen what both have seen
+abbrev pub met : View → View → View
+met v w = record v {
+  durable = max v.durable w.durable;
+  given = max v.given w.given;
+  front = (both v w).front;
+  heard = [];
+  kept = [];
+}

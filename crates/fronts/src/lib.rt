@@ -2,7 +2,23 @@
 #![tactic(auto)]
 
 mod claim;
+mod ended;
+mod fronts;
+mod law;
+mod laws;
+mod naming;
+mod notes;
+mod opened;
+mod passes;
+mod steps;
+mod tokens;
 mod view;
 
 pub use claim::Claim;
+pub use ended::Ended;
+pub use fronts::Fronts;
+pub use laws::{named_cells_stand, numbers_tell_places};
+pub use naming::{Naming, Origin};
+pub use opened::Opened;
+pub use tokens::{Note, Pass};
 pub use view::{Sent, View};

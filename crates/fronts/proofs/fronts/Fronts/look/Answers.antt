@@ -1,0 +1,13 @@
+use Rattle.std.proofs.Common.{subst}
+use Rattle.fronts.specs.declared.view.View.{View}
+use Rattle.fronts.specs.Calls.{KeepsCalls}
+use Rattle.fronts.proofs.TokenSteps.{keeps_calls, pass_with_front}
+use Rattle.fronts.proofs.fronts.Fronts.look.Goals as goal
+
+pub invariant_of-pass : goal.invariant_of-pass
+invariant_of-pass g c =
+    let h = c.look_as.ensures in pass_with_front g.O.Origin.start c.pass.inside.token c.look_as.new.token h.view h.history c.pass.invariant
+
+pub returns-clause-calls : goal.returns-clause-calls
+returns-clause-calls g c =
+    subst (λ (v : View). KeepsCalls v c.look_as.new.token) c.pass.view_is (keeps_calls g.O.Origin.start c.pass.inside.token c.look_as.new.token c.look_as.ensures.follows)
