@@ -49,6 +49,5 @@ module _ {S : Type 0} (start : Start) (s : State S View) (ws : List ℕ) (id : �
         let numbers : All (λ (x : Sent). x.pass < k.next) later = all_rest (λ (x : Sent). x.pass < k.next) (found_by start) later (subst (All (λ (x : Sent). x.pass < k.next)) (sym k.is_history.begins) k.numbers) in record {
           later = later;
           begins = k.is_history.begins ∙ sym all;
-          calls = λ i d less. let some = k.is_history.passes i d less in let under = numbers i d less in
-              joined.numbers (Rattle.std.specs.Prelude.slice_index_or later i d).pass (omega arith) (omega (arith, gives.1));
+          calls = λ i d less. let some = k.is_history.passes i d less in let under = numbers i d less in (omega arith, omega (arith, gives.1));
         }

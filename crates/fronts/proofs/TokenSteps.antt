@@ -7,10 +7,10 @@ use Rattle.fronts.specs.declared.claim.Claim.{Claim}
 use Rattle.fronts.specs.declared.claim.Claim.TheVariants.{Number}
 use Rattle.fronts.specs.declared.view.View.{View}
 use Rattle.fronts.specs.Start.{Start}
-use Rattle.fronts.specs.History.{IsBounded, IsHistory, entries_of}
+use Rattle.fronts.specs.History.{IsBounded, IsHistory, calls_by, entries_of}
 use Rattle.fronts.specs.Claims.{Follows}
 use Rattle.fronts.specs.Tokens.{IsNote, IsPass, IsToken, Unites}
-use Rattle.fronts.specs.Views.{appended, as_one, both, united, with_claim_given, with_front}
+use Rattle.fronts.specs.Views.{appended, as_one, both, united, own_calls, with_claim_given, with_front}
 use Rattle.fronts.specs.Calls.{KeepsCalls}
 use Rattle.fronts.proofs.Following.{calls_stay, follows_self, history_more}
 use Rattle.fronts.proofs.Owning.{left_if_other}
@@ -69,3 +69,7 @@ module _ (start : Start) where
 
   pub keeps_calls : (v w : View) → Follows start v.claims v.front w.front → KeepsCalls v w
   keeps_calls v w f n h = calls_stay start v.claims n v.front w.front h f
+
+  -- a pass keeps its number and its own calls
+  pub own_calls_stay : (v w : View) → IsPass start v → w.number ≡ v.number → KeepsCalls v w → own_calls w ≡ own_calls v
+  own_calls_stay v w p number keeps = ap (λ n. calls_by n w.front) number ∙ keeps v.number p.own_number

@@ -11,8 +11,8 @@ pub record HasAllNumbers (v : View) : Type 0 where
   pub may_give : v.next ≢ 0
   pub numbers : (n : ℕ) → 1 ≤ n → n < v.next → Contains v.claims (Number n)
 
--- the front begins with what was found, and after that each entry is the call of a pass whose number this view has
+-- the front begins with what was found, and after that each entry is the call of a pass that was joined
 pub record HasAllCalls (start : Start) (v : View) : Type 0 where
   pub later : List Sent
   pub begins : found_by start ++ later ≡ v.front
-  pub calls : All (λ s. Contains v.claims (Number s.pass)) later
+  pub calls : All (λ s. (1 ≤ s.pass) × (s.pass < v.next)) later

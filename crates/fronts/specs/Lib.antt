@@ -9,3 +9,4 @@ pub mod Samples
 pub mod Calls
 pub mod Ends
 pub mod Laws
+pub mod Pair

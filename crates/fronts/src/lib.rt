@@ -2,6 +2,8 @@
 #![tactic(auto)]
 
 mod claim;
+#[cfg(test)]
+mod demonstration;
 mod ended;
 mod fronts;
 mod law;

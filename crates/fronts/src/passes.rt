@@ -4,7 +4,7 @@ ghost use Rattle.base_ids.specs.declared.cell_id.CellId.{CellId};
 ghost use Rattle.fronts.specs.declared.claim.Claim.TheVariants.{Pen, Flush, Number, Cell};
 ghost use Rattle.fronts.specs.Calls.{KeepsCalls};
 ghost use Rattle.fronts.specs.Claims.{Follows};
-ghost use Rattle.fronts.specs.History.{IsBounded, IsHistory, entries_of};
+ghost use Rattle.fronts.specs.History.{IsBounded, IsHistory, calls_by, entries_of};
 ghost use Rattle.fronts.specs.Tokens.{Unites};
 ghost use Rattle.fronts.specs.Views.{appended, marked, met, new_pass, note_with, note_with_mark, own_calls, united, with_claim_given, with_durable, with_front, with_mark_given, with_pass_given};
 
@@ -22,6 +22,7 @@ impl<O: Origin, J: Naming> Fronts<O, J> {
         ensures history { IsHistory O.start pass.new.front }
         ensures follows { Follows O.start pass.old.claims pass.old.front pass.new.front }
         ensures calls { KeepsCalls pass.old pass.new }
+        ensures own { own_calls pass.new ≡ own_calls pass.old }
     {
         self.look_as(&mut pass.token)
     }
@@ -111,6 +112,7 @@ impl<O: Origin, J: Naming> Fronts<O, J> {
         ensures history { IsHistory O.start pass.new.front }
         ensures follows { Unites O.start pass.old note pass.new }
         ensures calls { KeepsCalls pass.old pass.new × KeepsCalls note pass.new }
+        ensures own { own_calls pass.new ≡ own_calls pass.old }
     {
         let Note { token } = note;
         self.take_as(&mut pass.token, token);
@@ -123,6 +125,9 @@ impl<O: Origin, J: Naming> Fronts<O, J> {
         ensures history { IsHistory O.start pass.new.front }
         ensures follows { Unites O.start pass.old other pass.new }
         ensures calls { KeepsCalls pass.old pass.new × KeepsCalls other pass.new }
+        ensures own { own_calls pass.new ≡ own_calls pass.old }
+        ensures ended { calls_by other.number pass.new.front ≡ own_calls other }
+        ensures numbers { Contains pass.new.claims (Number pass.old.number) × Contains pass.new.claims (Number other.number) }
     {
         let Pass { token } = other;
         self.take_as(&mut pass.token, token);
@@ -137,6 +142,7 @@ impl<O: Origin, J: Naming> Fronts<O, J> {
         ensures first { Follows O.start pass.old.claims pass.old.front pass.new.front }
         ensures second { Follows O.start other.old.claims other.old.front pass.new.front }
         ensures calls { KeepsCalls pass.old pass.new × KeepsCalls other.old other.new }
+        ensures own { (own_calls pass.new ≡ own_calls pass.old) × (own_calls other.new ≡ own_calls other.old) }
     {
         let seen = self.note_as(&mut pass.token);
         self.take_as(&mut other.token, seen);

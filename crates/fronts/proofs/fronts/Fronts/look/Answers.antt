@@ -1,7 +1,8 @@
-use Rattle.std.proofs.Common.{subst}
+use Rattle.std.proofs.Common.{◌≡◌, ◌≢◌, ◌+◌, ◌<◌, ◌≤◌, List, [], ◌∷◌, ◌++◌, length, sym, ap, ◌∙◌, subst, refl, arith, rules}
 use Rattle.fronts.specs.declared.view.View.{View}
 use Rattle.fronts.specs.Calls.{KeepsCalls}
-use Rattle.fronts.proofs.TokenSteps.{keeps_calls, pass_with_front}
+use Rattle.fronts.specs.Views.{own_calls}
+use Rattle.fronts.proofs.TokenSteps.{keeps_calls, own_calls_stay, pass_with_front}
 use Rattle.fronts.proofs.fronts.Fronts.look.Goals as goal
 
 pub invariant_of-pass : goal.invariant_of-pass
@@ -11,3 +12,8 @@ invariant_of-pass g c =
 pub returns-clause-calls : goal.returns-clause-calls
 returns-clause-calls g c =
     subst (λ (v : View). KeepsCalls v c.look_as.new.token) c.pass.view_is (keeps_calls g.O.Origin.start c.pass.inside.token c.look_as.new.token c.look_as.ensures.follows)
+
+pub returns-clause-own : goal.returns-clause-own
+returns-clause-own g c =
+    let keeps = keeps_calls g.O.Origin.start c.pass.inside.token c.look_as.new.token c.look_as.ensures.follows in
+    own_calls_stay g.O.Origin.start c.pass.inside.token c.look_as.new.token c.pass.invariant (ap (λ (v : View). v.number) c.look_as.ensures.view) keeps ∙ ap own_calls c.pass.view_is
