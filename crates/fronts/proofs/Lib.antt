@@ -8,3 +8,4 @@ pub mod Opening
 pub mod TokenSteps
 pub mod Closing
 pub mod Standing
+pub mod Pairs

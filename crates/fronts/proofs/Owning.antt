@@ -11,7 +11,7 @@ use Rattle.fronts.specs.declared.claim.Claim.TheVariants.{Pen, Flush, Number, Ce
 use Rattle.fronts.specs.Views.{same_claim, without}
 use Rattle.fronts.proofs.Listed.{contains_cases, contains_head, contains_none, contains_tail}
 
-cells_are : (a b : CellId) → same_cell a b ≡ true → a ≡ b
+pub cells_are : (a b : CellId) → same_cell a b ≡ true → a ≡ b
 cells_are (Account a) (Account b) same = let k : a.k ≡ b.k = grind (arith, nat_tests) in ap Account (player_is a b k)
 cells_are (Planet a) (Planet b) same =
     let g : a.g ≡ b.g = grind (arith, nat_tests) in
@@ -21,7 +21,7 @@ cells_are (Planet a) (Planet b) same =
 cells_are (Account a) (Planet b) same = cc
 cells_are (Planet a) (Account b) same = cc
 
-cell_itself : (a : CellId) → same_cell a a ≡ true
+pub cell_itself : (a : CellId) → same_cell a a ≡ true
 cell_itself (Account a) = grind (arith, nat_tests)
 cell_itself (Planet a) = grind (arith, nat_tests)
 

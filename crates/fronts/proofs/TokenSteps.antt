@@ -53,7 +53,7 @@ module _ (start : Start) where
       }
 
   pub note_with_front : (v w : View) → w ≡ with_front v w.front → IsHistory start w.front → IsNote start v → IsNote start w
-  note_with_front v w is h n = record { is_token = token_with_front v w is h; no_number = ap (λ (u : View). u.number) is ∙ n.no_number }
+  note_with_front v w is h n = record { is_token = token_with_front v w is h; no_number = ap (λ (u : View). u.number) is ∙ n.no_number; no_next = ap (λ (u : View). u.next) is ∙ n.no_next }
 
   -- an appended entry is a longer front
   pub front_appended : (v w : View) (entry : Entry) → w ≡ appended v entry → w ≡ with_front v w.front

@@ -18,9 +18,11 @@ pub record IsPass (start : Start) (v : View) : Type 0 where
   pub some_number : v.number ≢ 0
   pub own_number : Contains v.claims (Number v.number)
 
+-- a note has no number, and may give none
 pub record IsNote (start : Start) (v : View) : Type 0 where
   pub is_token : IsToken start v
   pub no_number : v.number ≡ 0
+  pub no_next : v.next ≡ 0
 
 -- Each of two fronts is a beginning of the new one, and no entry that came after it concerns its claims.
 pub record Unites (start : Start) (v w new : View) : Type 0 where

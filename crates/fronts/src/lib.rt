@@ -13,6 +13,8 @@ mod notes;
 mod opened;
 mod passes;
 mod steps;
+#[cfg(test)]
+mod tests;
 mod tokens;
 mod view;
 

@@ -113,6 +113,7 @@ impl<O: Origin, J: Naming> Fronts<O, J> {
         ensures follows { Unites O.start pass.old note pass.new }
         ensures calls { KeepsCalls pass.old pass.new × KeepsCalls note pass.new }
         ensures own { own_calls pass.new ≡ own_calls pass.old }
+        ensures next { pass.new.next ≡ pass.old.next }
     {
         let Note { token } = note;
         self.take_as(&mut pass.token, token);
