@@ -1,8 +1,8 @@
 -- A cell counts the entries that touch it, and a journal knows its line.
-use Rattle.std.proofs.Common.{◌≡◌, ◌≢◌, ◌⊎◌, ℕ, zero, suc, ◌+◌, ◌<◌, ◌≤◌, Bool, true, false, ◌||◌, List, [], ◌∷◌, ◌++◌, length, inl, inr, ⊎_elim, refl, sym, ap, ◌∙◌, subst, arith, append_assoc, length-append, max, eq-eqb, ne_eqb}
+use Rattle.std.proofs.Common.{◌≡◌, ◌≢◌, ℕ, ◌+◌, ◌<◌, ◌≤◌, Bool, true, false, ◌||◌, List, [], ◌∷◌, ◌++◌, length, refl, sym, ap, ◌∙◌, subst, arith, append_assoc, length-append, max, eq-eqb, ne_eqb}
 use Rattle.std.specs.Prelude.{Contains, IsTrue, nat_eq, if◌then◌else◌, All, ◌==◌}
 use Rattle.std.proofs.lemmas.List.{append-nil, length-map}
-use Rattle.std.proofs.lemmas.List.Elements.{Contains-append_left, Contains-append_right, Contains-push}
+use Rattle.std.proofs.lemmas.List.Elements.{Contains-append_left, Contains-push}
 use Rattle.std.proofs.lemmas.Bool.Decides.{nat_tests}
 use Rattle.base_ids.proofs.Names.{player_is}
 use Rattle.base_ids.specs.Cells.{same_cell}
@@ -12,17 +12,16 @@ use Rattle.base_ids.specs.declared.player.Player.{Player}
 use Rattle.request_text.specs.declared.entry.Entry.{Entry}
 use Rattle.tick_model.specs.History.{IsLegalFrom}
 use Rattle.fronts.specs.declared.claim.Claim.{Claim}
-use Rattle.fronts.specs.declared.claim.Claim.TheVariants.{Pen, Flush, Number, Cell}
+use Rattle.fronts.specs.declared.claim.Claim.TheVariants.{Pen, Number, Cell}
 use Rattle.fronts.specs.declared.view.Sent.{Sent}
 use Rattle.fronts.specs.declared.view.View.{View}
 use Rattle.fronts.specs.Start.{Start}
-use Rattle.fronts.specs.Claims.{Follows}
 use Rattle.fronts.specs.History.{IsBounded, IsHistory, calls_by, entries_of, found_by}
 use Rattle.fronts.specs.Ends.{HasAllCalls, HasAllNumbers}
 use Rattle.fronts.specs.Pair.{hits, last_moment, pair}
 use Rattle.fronts.specs.Tokens.{Unites}
 use Rattle.fronts.proofs.Following.{pen_sees_all}
-use Rattle.fronts.proofs.Owning.{cell_itself, cells_are, left_if_other}
+use Rattle.fronts.proofs.Owning.{cell_itself, cells_are}
 use Rattle.fronts.proofs.Standing.{stands_until_touched}
 use Rattle.fronts.proofs.Listed.{all_tail}
 

@@ -2,7 +2,7 @@ ghost use Rattle.std.specs.Prelude.{◌≡◌, ◌≢◌};
 ghost use Rattle.fronts.specs.Pair.{pair};
 
 use crate::demonstration::share;
-use crate::{Naming, Opened, Origin};
+use crate::{Naming, Opened, Origin, named_cells_stand, numbers_tell_places};
 use base_ids::Player;
 use std::alloc::Global;
 use std::marker::Brand;
@@ -47,4 +47,43 @@ fn named<O: Origin + Send + Sync, J: Naming + Send + Sync, R: Threads + Wait + A
     assert_eq!(rt; ended.entries, 2 * times);
     assert_eq!(rt; ended.durable, 2 * times);
     Ok(())
+}
+
+#[test]
+fn marks_and_notes_go_round(rt: HostRuntime) -> Result<(), Fail> {
+    opened_for_notes::<Brand, _>(&rt, rt.alloc(), Player { k: 1 }, Player { k: 2 })
+}
+
+fn opened_for_notes<O: Origin, R: Abort>(
+    rt: &R,
+    alloc: Global,
+    first: Player,
+    second: Player,
+) -> Result<(), Fail>
+    requires start { O.start ≡ pair first second }
+{
+    notes::<O, Brand, R>(rt, Opened::new(alloc, 0)?)
+}
+
+fn notes<O: Origin, J: Naming, R: Abort>(rt: &R, opened: Opened<O>) -> Result<(), Fail>
+    requires named { opened ≡ J.table }
+{
+    let (fronts, mut pass) = opened.named::<J>();
+    fronts.mark(&mut pass);
+    let mark = fronts.give_mark(&mut pass);
+    let mut note = fronts.note(&mut pass);
+    let copy = fronts.copy(&mut note);
+    fronts.gather(&mut note, copy);
+    fronts.gather(&mut note, mark);
+    assert_eq!(rt; fronts.look_again(&mut note), 0);
+    assert_eq!(rt; fronts.look(&mut pass), 0);
+    assert_eq!(rt; fronts.read(&mut pass), 0);
+    fronts.take(&mut pass, note);
+    Ok(())
+}
+
+#[test]
+fn the_laws_are_called() {
+    named_cells_stand::<Brand>();
+    numbers_tell_places::<Brand>();
 }

@@ -1,4 +1,4 @@
-use Rattle.std.proofs.Common.{◌≡◌, ◌+◌, List, [], ◌∷◌, length, sym, ap, ◌∙◌, subst, arith, map}
+use Rattle.std.proofs.Common.{List, ◌∷◌, sym, subst, map}
 use Rattle.std.specs.Prelude.{Contains}
 use Rattle.fronts.specs.declared.claim.Claim.{Claim}
 use Rattle.fronts.specs.declared.claim.Claim.TheVariants.{Pen, Flush, Number, Cell}

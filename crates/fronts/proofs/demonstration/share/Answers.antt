@@ -1,4 +1,4 @@
-use Rattle.std.proofs.Common.{◌≡◌, ◌+◌, length, ap, arith}
+use Rattle.std.proofs.Common.{length, ap, arith}
 use Rattle.fronts.proofs.Pairs.{two_passes}
 use Rattle.fronts.proofs.demonstration.share.Goals as goal
 

@@ -1,4 +1,4 @@
-use Rattle.std.proofs.Common.{◌≡◌, ◌≢◌, ◌+◌, ◌<◌, ◌≤◌, List, [], ◌∷◌, ◌++◌, length, sym, ap, ◌∙◌, subst, refl, arith, rules}
+use Rattle.std.proofs.Common.{ap}
 use Rattle.fronts.specs.declared.view.View.{View}
 use Rattle.fronts.proofs.Pairs.{hits_stay, pen_knows_all}
 use Rattle.fronts.proofs.demonstration.take_cell.Goals as goal

@@ -1,4 +1,4 @@
-use Rattle.std.proofs.Common.{◌≡◌, ◌≢◌, ◌+◌, ◌<◌, ◌≤◌, List, [], ◌∷◌, ◌++◌, length, sym, ap, ◌∙◌, subst, refl, arith, rules}
+use Rattle.std.proofs.Common.{length, ap, ◌∙◌}
 use Rattle.fronts.specs.declared.view.View.{View}
 use Rattle.fronts.specs.History.{entries_of}
 use Rattle.fronts.specs.Pair.{last_moment}

@@ -1,4 +1,4 @@
-use Rattle.std.proofs.Common.{◌≡◌, ◌≢◌, ◌+◌, ◌<◌, ◌≤◌, List, [], ◌∷◌, ◌++◌, length, sym, ap, ◌∙◌, subst, refl, arith, rules}
+use Rattle.std.proofs.Common.{ap, ◌∙◌, subst}
 use Rattle.fronts.specs.declared.view.View.{View}
 use Rattle.fronts.specs.Calls.{KeepsCalls}
 use Rattle.fronts.specs.Views.{own_calls}
