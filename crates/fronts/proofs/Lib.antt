@@ -1,0 +1,11 @@
+pub mod Listed
+pub mod Following
+pub mod Owning
+pub mod Keeping
+pub mod Parting
+pub mod Uniting
+pub mod Opening
+pub mod TokenSteps
+pub mod Closing
+pub mod Standing
+pub mod Pairs

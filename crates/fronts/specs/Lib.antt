@@ -1,0 +1,12 @@
+pub mod Start
+pub mod History
+pub mod Claims
+pub mod Views
+pub mod Rule
+pub mod Steps
+pub mod Tokens
+pub mod Samples
+pub mod Calls
+pub mod Ends
+pub mod Laws
+pub mod Pair
