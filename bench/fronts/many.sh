@@ -8,7 +8,8 @@ times=${2:-10000}
 name=tests::two_threads_share_one_history
 
 busy=""
-trap 'kill $busy 2>/dev/null || true' EXIT INT TERM
+trap 'kill $busy 2>/dev/null || true' EXIT
+trap 'exit 1' INT TERM
 for _ in $(seq $(($(nproc) * 2))); do
     sh -c 'while :; do :; done' &
     busy="$busy $!"
