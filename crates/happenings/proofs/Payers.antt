@@ -51,11 +51,3 @@ pub payer_brought : (player : Player) (moment : ℕ) (items : List ResearchItem)
     → is_payer_by moment items cell ≡ research_brings moment (map (research_item player) items) cell
 payer_brought player moment [] cell = refl
 payer_brought player moment (first ∷ waiting) cell = ap (λ b. nat_le first.second moment && b) (waiting-payer player waiting cell)
-
-pub account_brings : (held : Held) (id : CellId) (player : Player) (cell : AccountCell) (moment : ℕ) (cells : List CellId) → id ≡ AccountId player
-    → get player_order held.accounts player ≡ Some cell → AreAllPayers moment cell.account.research.items cells → AreBrought (sees_held held id) moment (Some cells)
-account_brings held id player cell moment cells is found all =
-    let here : sees_held held id ≡ Some (account_stand cell).seen =
-    ap (sees_held held) is ∙ ap (λ o. option_map (λ (s : Stand). s.seen) (option_map account_stand o)) found in
-    subst (λ (o : Option View). AreBrought o moment (Some cells)) (sym here)
-    (λ other. all other ∙ payer_brought cell.account.player moment cell.account.research.items other)

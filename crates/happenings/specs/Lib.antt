@@ -2,7 +2,9 @@ pub mod Orders
 pub mod Held
 pub mod Queues
 pub mod Due
+pub mod Happening
 pub mod Gaining
+pub mod Landings
 pub mod Applying
 pub mod Researching
 pub mod Merging

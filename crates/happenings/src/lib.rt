@@ -4,7 +4,9 @@
 mod applying;
 mod due;
 mod gaining;
+mod happening;
 mod held;
+mod landing;
 mod looking;
 mod merging;
 mod numbering;
@@ -13,5 +15,6 @@ mod researching;
 
 pub use applying::apply;
 pub use due::Due;
+pub use happening::Happening;
 pub use held::{AccountCell, Held, PlanetCell};
 pub use queue::Queue;
