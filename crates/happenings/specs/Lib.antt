@@ -12,3 +12,4 @@ pub mod Sights
 pub mod Naming
 pub mod Coming
 pub mod Numbering
+pub mod Joining

@@ -6,6 +6,7 @@ mod due;
 mod gaining;
 mod happening;
 mod held;
+mod joining;
 mod landing;
 mod looking;
 mod merging;
