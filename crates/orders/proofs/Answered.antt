@@ -263,8 +263,8 @@ owned planet account player whose same =
     let key : planet.owner.k ≡ player.k = same ∙ ap (λ (x : Player). x.k) whose in
     grind (arith, nat_tests)
 
-pub counted_own : (account : Account) (fleets : List Fleet) (planet : Planet) → AreCounted (Some account) fleets (Some planet) → planet.owner.k ≡ account.player.k → sum planet.units + units_left (batches_of planet) ≤ account.units
-counted_own account fleets planet counted same = counted.1 (owned planet account account.player refl same)
+pub counted_own : (account : Account) (planet : Planet) → AreCounted (Some account) (Some planet) → planet.owner.k ≡ account.player.k → sum planet.units + units_left (batches_of planet) ≤ account.units
+counted_own account planet counted same = counted (owned planet account account.player refl same)
 
 -- what comes of a request about the caller's own planet
 pub on_own_comes : (sight : Sight) (player : Player) (rules : Rules) (moment : ℕ) (req : Request) (old new : Parts) (old_account account : Account) (old_planet planet : Planet) (acted : Acted) → AreShown sight player rules moment req old → IsAtPlace req

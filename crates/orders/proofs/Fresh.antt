@@ -9,12 +9,11 @@ use Rattle.catalog.specs.Technologies.{level_in}
 use Rattle.catalog.specs.declared.classes.TheConstants.{BUILDINGS}
 use Rattle.catalog.specs.declared.kind.Kind.{Kind}
 use Rattle.catalog.specs.declared.kind.Kind.TheVariants.{MetalMine}
-use Rattle.orders.specs.Granting.{AreCounted, CountsShips}
+use Rattle.orders.specs.Granting.{AreCounted}
 use Rattle.planet_cell.proofs.Caps.{caps_fresh}
 use Rattle.planet_cell.specs.Bounds.{AreWithinCaps}
 use Rattle.planet_cell.specs.Planet.{batches_of}
 use Rattle.planet_cell.specs.declared.planet.Planet.{Planet}
-use Rattle.tick_model.specs.Universe.{Fleet}
 use Rattle.tick_model.specs.Views.{units_left}
 
 workshop : (kind : Kind) → slice_index (0 ∷ 0 ∷ 0 ∷ 0 ∷ 0 ∷ 0 ∷ 0 ∷ 2 ∷ 1 ∷ 1 ∷ 0 ∷ []) (place_in BUILDINGS kind) + 0 ≤ level_cap_of kind
@@ -34,6 +33,6 @@ learned _ = omega arith
 pub levels_learned : AreTechsWithinCaps (3 ∷ 0 ∷ 0 ∷ 0 ∷ 0 ∷ 0 ∷ 0 ∷ 0 ∷ 0 ∷ 0 ∷ 0 ∷ 0 ∷ 0 ∷ 1 ∷ []) []
 levels_learned = record { each = λ kind class. learned kind }
 
--- an account that counts the ships of its fleets, and has as many units as a planet, counts them
-pub counts : (account : Account) (fleets : List Fleet) (planet : Planet) → CountsShips account fleets → sum planet.units + units_left (batches_of planet) ≤ account.units → AreCounted (Some account) fleets (Some planet)
-counts account fleets planet ships within = (ships, λ own. within)
+-- an account that has as many units as a planet counts them
+pub counts : (account : Account) (planet : Planet) → sum planet.units + units_left (batches_of planet) ≤ account.units → AreCounted (Some account) (Some planet)
+counts account planet within = λ own. within

@@ -69,23 +69,3 @@ pub next_own : (player : Player) (xs : List FleetRecord) (place : ℕ) (body nex
 next_own player xs place body next x =
     next_line (λ (y : FleetRecord). own_line player (fleet_seen y)) (λ (ys : List FleetRecord). fleet_lines (own_fleets player (map fleet_seen ys)))
     (λ y ys. own_first (same_player y.owner player) (fleet_seen y) (own_fleets player (map fleet_seen ys))) xs place body next x
-
--- Each fleet has a ship, so a player has no more fleets than ships in them.
-
-some_ship : (counts : List ℕ) → IsTrue (list_any (λ count. nat_lt 0 count) counts) → 1 ≤ sum counts
-some_ship [] some = absurd cc
-some_ship (first ∷ later) some =
-    elim (or-is (nat_lt 0 first) (list_any (λ count. nat_lt 0 count) later) some) [
-      | inl here ↦ (let one : 1 ≤ first = grind (arith, nat_tests) in omega (arith, one, sum_by-cons (λ (n : ℕ). n) first later))
-      | inr rest ↦ omega (arith, some_ship later rest, sum_by-cons (λ (n : ℕ). n) first later)
-    ]
-
-count_within : (own : Bool) (first : Fleet) (later : List Fleet) (ships : ℕ) → 1 ≤ sum first.ships → length later ≤ ships → length (cond own (first ∷ later) later) ≤ cond own (sum first.ships) 0 + ships
-count_within true first later ships some within = omega arith
-count_within false first later ships some within = omega arith
-
-pub fleets_within : (player : Player) (fleets : List FleetRecord) → length (own_fleets player (map fleet_seen fleets)) ≤ sum_by (ships_of player) (map fleet_seen fleets)
-fleets_within player [] = omega arith
-fleets_within player (first ∷ later) =
-    let rest = count_within (same_player first.owner player) (fleet_seen first) (own_fleets player (map fleet_seen later)) (sum_by (ships_of player) (map fleet_seen later)) (some_ship first.ships.n first.ships.some) (fleets_within player later) in
-    omega (arith, rest, sum_by-cons (ships_of player) (fleet_seen first) (map fleet_seen later))

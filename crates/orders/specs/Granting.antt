@@ -1,5 +1,5 @@
 -- What a request about the caller's own planet makes of the caller's account and of that planet.
-use Rattle.std.specs.Prelude.{◌≡◌, ℕ, ◌+◌, ◌==◌, ◌≤◌, List, [], ◌∷◌, Option, None, Some, IsTrue, sum, sum_by, if◌then◌else◌}
+use Rattle.std.specs.Prelude.{◌≡◌, ℕ, ◌+◌, ◌==◌, ◌≤◌, List, [], ◌∷◌, Option, None, Some, IsTrue, sum, if◌then◌else◌}
 use Rattle.account_cell.specs.declared.account.Account.{Account}
 use Rattle.account_cell.specs.Account.{account_fields}
 use Rattle.base_ids.specs.Cells.{same_player}
@@ -17,26 +17,21 @@ use Rattle.tick_model.specs.Changes.{Change}
 use Rattle.tick_model.specs.Requests.{Outcome, Sight, builds, refused, researches, sets, shows, yards}
 use Rattle.tick_model.specs.Researches.{pays_research}
 use Rattle.tick_model.specs.Universe.{AccountFields, Fleet, Item, PlanetFields}
-use Rattle.tick_model.specs.Views.{ships_of, units_left}
+use Rattle.tick_model.specs.Views.{units_left}
 use Rattle.tick_model.specs.declared.codes.TheConstants.{NOT_BUILT}
 use Rattle.tick_model.specs.declared.placed.Placed.{Placed}
 use Rattle.tick_model.specs.declared.placed.Placed.TheVariants.{Starts, Waits}
 use Rattle.tick_model.specs.declared.rules.Rules.{Rules}
 
--- an account counts the ships of its fleets, which are among those of its cell
-abbrev pub CountsShips : Account → List Fleet → Type 0
-CountsShips account fleets = sum_by (ships_of account.player) fleets ≤ account.units
-
 -- If the planet is the account's, the account counts its units, those that its yard is to build included.
 abbrev pub CountsUnits : Account → Planet → Type 0
 CountsUnits account planet = IsTrue (same_player planet.owner account.player) → sum planet.units + units_left (batches_of planet) ≤ account.units
 
--- The caller's account, if it is there, counts the ships of its fleets, and the units of the planet at the place, if that is there
--- and is the caller's.
-abbrev pub AreCounted : Option Account → List Fleet → Option Planet → Type 0
-AreCounted (Some account) fleets (Some planet) = CountsShips account fleets × CountsUnits account planet
-AreCounted (Some account) fleets None = CountsShips account fleets
-AreCounted None fleets planet = Unit {0}
+-- The caller's account, if it is there, counts the units of the planet at the place, if that is there and is the caller's.
+abbrev pub AreCounted : Option Account → Option Planet → Type 0
+AreCounted (Some account) (Some planet) = CountsUnits account planet
+AreCounted (Some account) None = Unit {0}
+AreCounted None planet = Unit {0}
 
 -- the forms of requests about a planet of the caller's
 abbrev pub IsAtPlace : Request → Type 0

@@ -28,7 +28,7 @@ pub fn act(
     moment: u64,
 ) -> Result<Acted, AllocError>
     requires moment { moment ≤ LATEST }
-    requires counted { AreCounted parts.old.caller parts.old.fleets.caller parts.old.from }
+    requires counted { AreCounted parts.old.caller parts.old.from }
     ensures ok { IfOk result (Acts rules.now moment req.now parts.old parts.new) }
     ensures refused { IfOk result (λ acted. 0 < acted.code → AreKept parts.old parts.new) }
     ensures err { OnErr result (AreKept parts.old parts.new) }
@@ -80,7 +80,7 @@ fn act_at_place(
 ) -> Result<Acted, AllocError>
     requires place { IsAtPlace req.now }
     requires moment { moment ≤ LATEST }
-    requires counted { AreCounted parts.old.caller parts.old.fleets.caller parts.old.from }
+    requires counted { AreCounted parts.old.caller parts.old.from }
     ensures ok { IfOk result (Acts rules.now moment req.now parts.old parts.new) }
     ensures refused { IfOk result (λ acted. 0 < acted.code → AreKept parts.old parts.new) }
     ensures err { OnErr result (AreKept parts.old parts.new) }

@@ -1,6 +1,5 @@
 ghost use Rattle.std.specs.Prelude.{◌≡◌, ℕ, ◌≤◌, IfOk, IfSome};
 ghost use Rattle.orders.specs.Acting.{Acts};
-ghost use Rattle.orders.specs.Granting.{AreCounted};
 ghost use Rattle.request_text.specs.declared.request.Request.TheVariants.{Account as AccountOf, Fleets as FleetsOf, System as SystemOf};
 ghost use Rattle.tick_model.specs.declared.rules.Rules.{Rules as RulesOf};
 
@@ -13,7 +12,6 @@ use tick_model::NO_PLAYER;
 
 /// `account`: the caller's account is shown.
 pub fn tell_account(alloc: Global, parts: &Parts) -> Result<Acted, AllocError>
-    requires { AreCounted parts.now.caller parts.now.fleets.caller parts.now.from }
     ensures { IfOk result (λ acted. (rules : RulesOf) (moment : ℕ) → Acts rules moment AccountOf parts.now parts.now acted) }
 {
     let Some(account) = &parts.caller else {

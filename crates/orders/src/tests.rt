@@ -3,7 +3,7 @@ ghost use Rattle.account_cell.specs.Bounds.{AreWithinCaps as AreTechsWithinCaps}
 ghost use Rattle.catalog.specs.declared.amounts.TheConstants.{CAP};
 ghost use Rattle.catalog.specs.declared.ships.TheConstants.{UNITS};
 ghost use Rattle.fleet_rec.specs.Fleet.{fleet_seen};
-ghost use Rattle.orders.specs.Granting.{AreCounted, CountsShips};
+ghost use Rattle.orders.specs.Granting.{AreCounted};
 ghost use Rattle.planet_cell.specs.Bounds.{AreWithinCaps};
 ghost use Rattle.ports.specs.declared.clock.TheConstants.{LATEST};
 
@@ -138,38 +138,15 @@ fn parts(alloc: Global, planet: Planet) -> Result<Parts, AllocError> {
     Ok(parts_of(alloc, Some(account(alloc)?), Some(planet)))
 }
 
-/// Whether the caller's account counts the ships of its fleets, and the units of the planet.
+/// Whether the caller's account counts the units of the planet.
 #[tactic(auto, using(crate::proofs::Fresh::counts))]
 fn is_counted(parts: &Parts) -> bool
-    ensures { IsTrue result → AreCounted parts.now.caller parts.now.fleets.caller parts.now.from }
+    ensures { IsTrue result → AreCounted parts.now.caller parts.now.from }
 {
-    let Some(account) = &parts.caller else {
+    let (Some(account), Some(planet)) = (&parts.caller, &parts.from) else {
         return true;
     };
-    let counts_ships = counts_ships(account, parts.fleets.caller.as_slice());
-    let Some(planet) = &parts.from else {
-        return counts_ships;
-    };
-    counts_ships && planet.unit_total() <= account.units
-}
-
-/// Whether an account has at least as many units as there are ships in its fleets, among these.
-#[tactic(auto, using(fleet_rec::proofs::Seen::ships_more))]
-fn counts_ships(account: &Account, fleets: &[Fleet]) -> bool
-    ensures { IsTrue result → CountsShips account.now (map fleet_seen fleets.now) }
-{
-    let mut left = account.units;
-    'fleets: for fleet in fleets {
-        if fleet.owner.k != account.player.k {
-            continue;
-        }
-        let ships = fleet.ship_total();
-        if ships > left {
-            return false;
-        }
-        left -= ships;
-    }
-    true
+    planet.unit_total() <= account.units
 }
 
 /// What a line comes to at a moment.

@@ -1,13 +1,10 @@
-ghost use Rattle.std.specs.Prelude.{◌≡◌, ◌++◌, ◌≤◌, IfOk, OnOk, Some, length, map, sum_by};
+ghost use Rattle.std.specs.Prelude.{◌≡◌, ◌++◌, ◌≤◌, IfOk, OnOk, Some, map};
 ghost use Rattle.account_cell.specs.Account.{account_fields};
 ghost use Rattle.catalog.specs.declared.settings.TheConstants.{TOP_SPEED};
-ghost use Rattle.catalog.specs.declared.ships.TheConstants.{UNITS};
 ghost use Rattle.fleet_rec.specs.Fleet.{fleet_seen};
 ghost use Rattle.orders.specs.Acting.{account_seen, own_line, system_text};
-ghost use Rattle.orders.specs.Granting.{CountsShips};
 ghost use Rattle.planet_cell.specs.Planet.{fields_of, queue_of};
 ghost use Rattle.tick_model.specs.Lines.{account_text, fleet_lines, head_of, own_fleets, own_planet_lines, planet_text, slots_of, units_of, yield_of};
-ghost use Rattle.tick_model.specs.Views.{ships_of};
 
 use crate::parts::SystemPlanet;
 use crate::queues::{push_batches, push_buildings, push_researches};
@@ -80,17 +77,16 @@ pub fn planet_lines(alloc: Global, speed: u32, planet: &Planet) -> Result<Bytes,
     Ok(body)
 }
 
-/// The lines that show an account that counts the ships of its fleets, among the fleets of its cell. It fails only if memory runs out.
+/// The lines that show an account, to whose cell these fleets belong. It fails only if memory runs out.
 #[tactic(auto, unfolding(tick_model::specs::Lines::account_text))]
 pub fn account_lines(alloc: Global, account: &Account, fleets: &Fleets) -> Result<Bytes, AllocError>
-    requires { CountsShips account.now fleets.now }
     ensures { IfOk result (λ body. body ≡ account_text account.now.player (account_fields account.now) (account_seen (Some account.now) fleets.now)) }
 {
     let mut body = Bytes::new(alloc);
     let head = AccountHead {
         player: account.player,
         units: account.units,
-        fleets: own_count(fleets.as_slice(), account.player),
+        fleets: fleets.count_of(account.player),
         slots: slots(account),
     };
     push_account(alloc, &mut body, head)?;
@@ -98,17 +94,6 @@ pub fn account_lines(alloc: Global, account: &Account, fleets: &Fleets) -> Resul
     push_planets(alloc, &mut body, account.planets.as_slice())?;
     push_researches(alloc, &mut body, account.research.as_slice())?;
     Ok(body)
-}
-
-/// How many of the fleets are the player's, who has at most `catalog::UNITS` ships in them.
-fn own_count(fleets: &[Fleet], player: Player) -> u32
-    requires { sum_by (ships_of player) (map fleet_seen fleets.now) ≤ UNITS }
-    ensures { result ≡ length (own_fleets player (map fleet_seen fleets.now)) }
-{
-    fleets
-        .iter()
-        .filter(|fleet| fleet.owner.k == player.k)
-        .count() as u32
 }
 
 /// How many fleets an account may have: one, and one for each level of computer technology.
