@@ -198,7 +198,8 @@ fn push_seen(
         at,
         owner: cell.planet.owner,
         debris: cell.planet.debris,
-    })
+    })?;
+    Ok(())
 }
 
 /// The place that a request names, or the origin of the caller's fleet that it calls back, among the fleets of the caller's account.
