@@ -17,3 +17,4 @@ pub mod Researched
 pub mod Numbered
 pub mod Payers
 pub mod Brought
+pub mod Joined
