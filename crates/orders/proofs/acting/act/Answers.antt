@@ -7,6 +7,16 @@ use Rattle.orders.specs.declared.parts.Acted.{Acted}
 use Rattle.request_text.specs.declared.request.Request.{Request}
 use Rattle.orders.proofs.acting.act.Goals as goal
 
+pub returns-in-Account-clause-ok : goal.returns-in-Account-clause-ok
+returns-in-Account-clause-ok c =
+    let family = λ (x : Request). IfOk c.tell_account.result (Acts c.args.rules.now c.args.moment x c.args.parts.now c.args.parts.now) in
+    subst family (sym c.in-Account.is) (weaker c.tell_account.result _ _ (λ acted acts. acts c.args.rules.now c.args.moment) c.tell_account.ensures)
+
+pub returns-in-System-clause-ok : goal.returns-in-System-clause-ok
+returns-in-System-clause-ok c =
+    let family = λ (x : Request). IfOk c.tell_system.result (Acts c.args.rules.now c.args.moment x c.args.parts.now c.args.parts.now) in
+    subst family (sym c.in-System.is) (weaker c.tell_system.result _ _ (λ acted acts. acts c.args.rules.now c.args.moment) c.tell_system.ensures)
+
 pub returns-in-Fleets-clause-ok : goal.returns-in-Fleets-clause-ok
 returns-in-Fleets-clause-ok c =
     let family = λ (x : Request). IfOk c.tell_fleets.result (Acts c.args.rules.now c.args.moment x c.args.parts.now c.args.parts.now) in
