@@ -1,4 +1,4 @@
-use Rattle.std.proofs.Common.{◌≡◌, refl, subst, arith}
+use Rattle.std.proofs.Common.{◌≡◌, subst, arith}
 use Rattle.tick_model.specs.Requests.{in_system}
 use Rattle.closure.specs.Naming.{AddsListed}
 use Rattle.closure.proofs.Naming.{adds-as, adds-nothing, adds-position, before, before-all, before-none}

@@ -1,5 +1,5 @@
 use Rattle.std.proofs.Common.{◌≡◌, Bool, false, Option, None, Some, refl, sym, ap, ◌∙◌, subst, arith}
-use Rattle.std.specs.Prelude.{[], ◌∷◌, ◌||◌, ◌&&◌, is_some}
+use Rattle.std.specs.Prelude.{◌||◌, ◌&&◌, is_some}
 use Rattle.base_ids.specs.declared.cell_id.CellId.TheVariants.{Account}
 use Rattle.request_text.specs.declared.request.Request.TheVariants.{Recall}
 use Rattle.tick_model.specs.Views.{View}
