@@ -1,5 +1,5 @@
 -- What can happen to cells that show a universe.
-use Rattle.std.proofs.Common.{◌≡◌, ℕ, ◌+◌, ◌≤◌, Bool, true, false, cond, eqb, ◌||◌, ◌&&◌, List, [], ◌∷◌, Contains, sum, sum_by, arith, refl, ap, ◌∙◌, sym, subst, inl, inr, Option, Some, None}
+use Rattle.std.proofs.Common.{◌≡◌, ℕ, ◌+◌, ◌≤◌, Bool, true, false, cond, eqb, ◌||◌, ◌&&◌, List, [], ◌∷◌, sum, sum_by, arith, refl, ap, ◌∙◌, sym, subst, inl, inr, Option, Some, None}
 use Rattle.std.proofs.lemmas.List.Sums.{sum_by-cons}
 use Rattle.std.specs.Prelude.{IfSome, is_some, option_map}
 use Rattle.std.specs.BTreeMap.{get}
@@ -7,29 +7,28 @@ use Rattle.base_ids.specs.Cells.{same_cell, same_player}
 use Rattle.base_ids.specs.declared.cell_id.CellId.{CellId}
 use Rattle.base_ids.specs.declared.cell_id.CellId.TheVariants.{Account as AccountId, Planet as PlanetId}
 use Rattle.base_ids.specs.declared.player.Player.{Player}
-use Rattle.catalog.specs.declared.mission.Mission.TheVariants.{Deploy}
 use Rattle.catalog.specs.declared.ships.TheConstants.{UNITS}
 use Rattle.fleet_rec.specs.Fleet.{fleet_seen}
 use Rattle.fleet_rec.specs.declared.fleet.Fleet.{Fleet as FleetRecord}
 use Rattle.laziness.proofs.Bringing.{never}
 use Rattle.laziness.specs.Stamps.{Stamps}
-use Rattle.tick_model.specs.Events.{Event, Owes, footprint, home, lands}
+use Rattle.tick_model.specs.Events.{Owes, footprint, home, lands}
 use Rattle.tick_model.specs.Flights.{landing}
 use Rattle.tick_model.specs.Game.{game}
 use Rattle.tick_model.specs.Rules.{IsFlying, IsIn, KeepsRules}
-use Rattle.tick_model.specs.Universe.{Fleet, Item, Own, PlanetFields, Setting, State, Yard, of_planet}
+use Rattle.tick_model.specs.Universe.{Fleet, PlanetFields, Setting, State, Yard, of_planet}
 use Rattle.tick_model.specs.declared.rules.Rules.{Rules}
 use Rattle.tick_model.specs.Views.{Holding, View, belongs, holding, holding_at, queue_in, ships_of, units_held, units_left, view}
-use Rattle.tick_model.proofs.Landings.{flies-in, landing-belongs}
+use Rattle.tick_model.proofs.Landings.{flies-in}
 use Rattle.tick_model.proofs.Lists.{cell-itself, fleet-one, from-filter, in-contained, or-first, or-second, same_number}
 use Rattle.tick_model.proofs.Nexts.{landing-listed}
 use Rattle.happenings.specs.Applying.{CanFinish, Finishes, Happens, held_after}
 use Rattle.happenings.specs.Coming.{CanHappen}
 use Rattle.happenings.specs.Happening.{IsOwed}
-use Rattle.happenings.specs.Held.{IsNamed, Shows, ShowsCell, Stand, account_stand, held_at, holds}
+use Rattle.happenings.specs.Held.{Shows, ShowsCell, Stand, account_stand, held_at, holds}
 use Rattle.happenings.specs.Landings.{CanLand, HasRoom, HaveOwnFleets, LandsIn, Stays}
 use Rattle.happenings.specs.Orders.{player_order}
-use Rattle.happenings.specs.Queues.{seen_held, seen_of}
+use Rattle.happenings.specs.Queues.{seen_of}
 use Rattle.happenings.specs.declared.due.Due.{Due}
 use Rattle.happenings.specs.declared.happening.Happening.{Happening}
 use Rattle.happenings.specs.declared.happening.Happening.TheVariants.{Item as ItemDue, Landing}

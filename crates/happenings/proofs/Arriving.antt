@@ -11,7 +11,7 @@ use Rattle.base_ids.specs.declared.coord.Coord.{Coord}
 use Rattle.fleet_rec.specs.Fleet.{fleet_seen}
 use Rattle.fleet_rec.specs.Fleets.{landing_seen, landings_due}
 use Rattle.fleet_rec.specs.declared.fleet.Fleet.{Fleet as FleetRecord}
-use Rattle.laziness.proofs.Bringing.{never, test}
+use Rattle.laziness.proofs.Bringing.{test}
 use Rattle.tick_model.specs.Events.{Event, first_event, key_of, lands, second_of}
 use Rattle.tick_model.specs.Flights.{landing}
 use Rattle.tick_model.specs.Rules.{IsIn}

@@ -16,13 +16,12 @@ use Rattle.closure.specs.Flown.{AreFlown}
 use Rattle.closure.specs.Lists.{has}
 use Rattle.fleet_rec.specs.Fleet.{fleet_seen}
 use Rattle.fleet_rec.specs.declared.fleet.Fleet.{Fleet as FleetRecord}
-use Rattle.laziness.proofs.Bringing.{never}
 use Rattle.tick_model.specs.Game.{brings, fleets_bring}
 use Rattle.tick_model.specs.Sending.{belongs_out, fleet_of}
 use Rattle.tick_model.specs.Universe.{Fleet}
 use Rattle.tick_model.specs.Views.{View, belongs}
 use Rattle.tick_model.proofs.Lists.{and-is, cell-itself, cell-turned, or-first, or-second, player-from}
-use Rattle.happenings.specs.Held.{Stand, account_stand, held_at, planet_stand}
+use Rattle.happenings.specs.Held.{Stand, account_stand, planet_stand}
 use Rattle.happenings.specs.Orders.{place_order, player_order}
 use Rattle.happenings.specs.Sights.{AreAllPayers, AreFlownOf, is_payer_by, sees_held}
 use Rattle.happenings.specs.declared.held.AccountCell.{AccountCell}

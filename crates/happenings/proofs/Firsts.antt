@@ -8,7 +8,7 @@ use Rattle.base_ids.specs.Order.{EventKey, key_before}
 use Rattle.laziness.proofs.Bringing.{test, never}
 use Rattle.tick_model.specs.Universe.{Item}
 use Rattle.tick_model.proofs.Keys.{key-one_way}
-use Rattle.happenings.specs.Due.{IsFirstOwed, first_of, key_at, sooner_of}
+use Rattle.happenings.specs.Due.{IsFirstOwed, first_of, sooner_of}
 use Rattle.happenings.specs.declared.due.Due.{Due}
 use Rattle.happenings.specs.declared.queue.Queue.{Queue}
 

@@ -2,7 +2,7 @@
 use Rattle.std.proofs.Math.Path.{fun_ext}
 use Rattle.account_cell.specs.Account.{AreSame as AreSameAccounts, account_queue, research_item, research_of}
 use Rattle.account_cell.specs.declared.account.Account.{Account}
-use Rattle.std.proofs.Common.{[], ◌≡◌, ℕ, ◌-◌, ◌≤◌, zero, suc, cond, true, refl, ap, ◌∙◌, sym, subst, Option, Some, None}
+use Rattle.std.proofs.Common.{◌≡◌, ℕ, ◌-◌, ◌≤◌, zero, suc, cond, true, refl, ap, ◌∙◌, sym, subst, Option, Some, None}
 use Rattle.std.specs.Prelude.{IfSome, IsSome, is_some, option_map}
 use Rattle.std.specs.BTreeMap.{get}
 use Rattle.base_ids.specs.declared.cell_id.CellId.{CellId}

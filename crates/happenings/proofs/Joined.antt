@@ -1,6 +1,6 @@
 -- What is held after a fleet joined those of its cells.
-use Rattle.std.proofs.Common.{◌≡◌, ◌++◌, Bool, true, false, cond, List, [], ◌∷◌, ap, ◌∙◌, sym, Option, Some, None}
-use Rattle.std.specs.Prelude.{OnOk, option_map}
+use Rattle.std.proofs.Common.{◌≡◌, ◌++◌, [], ◌∷◌, ap, ◌∙◌, sym, Some}
+use Rattle.std.specs.Prelude.{OnOk}
 use Rattle.std.specs.declared.result.Result.{Result}
 use Rattle.std.specs.declared.result.Result.TheVariants.{Ok, Err}
 use Rattle.base_ids.specs.Cells.{same_cell}

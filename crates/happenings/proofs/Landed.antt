@@ -1,5 +1,5 @@
 -- A fleet that lands among cells that are held: what it leaves is what the event makes of them.
-use Rattle.std.proofs.Common.{◌≡◌, ℕ, ◌+◌, ◌-◌, ◌≤◌, Bool, sum, true, false, cond, ◌==◌, List, [], ◌++◌, filter, refl, ap, ◌∙◌, sym, subst, inl, inr, Option, Some, None}
+use Rattle.std.proofs.Common.{◌≡◌, ◌+◌, ◌-◌, ◌≤◌, Bool, sum, true, false, cond, ◌==◌, List, [], ◌++◌, filter, refl, ap, ◌∙◌, sym, subst, inl, inr, Option, Some, None}
 use Rattle.std.proofs.Math.Path.{fun_ext}
 use Rattle.std.proofs.lemmas.List.{append-nil}
 use Rattle.std.specs.List.{filter_map}
@@ -20,7 +20,7 @@ use Rattle.laziness.proofs.Bringing.{never, test}
 use Rattle.planet_cell.specs.Planet.{batches_of, buildings_of, fields_of, queue_of}
 use Rattle.reply_text.specs.declared.units.Units.{Units}
 use Rattle.tick_model.specs.Changes.{Change, new_fleet, owns, put_own, queue_after, stays_queued}
-use Rattle.tick_model.specs.Events.{Event, footprint, lands}
+use Rattle.tick_model.specs.Events.{Event, lands}
 use Rattle.tick_model.specs.Flights.{Landed, arrived, landed, landing, moored, supplied, turns}
 use Rattle.tick_model.specs.Rules.{IsIn}
 use Rattle.tick_model.specs.Universe.{Fleet, Item, Own, PlanetFields, QueueClass, Yard, of_planet}

@@ -8,9 +8,8 @@ use Rattle.base_ids.specs.declared.cell_id.CellId.TheVariants.{Account as Accoun
 use Rattle.base_ids.specs.declared.coord.Coord.{Coord}
 use Rattle.base_ids.specs.declared.player.Player.{Player}
 use Rattle.fleet_rec.specs.Fleets.{AreOutbound}
-use Rattle.laziness.proofs.Bringing.{never, test}
+use Rattle.laziness.proofs.Bringing.{never}
 use Rattle.reply_text.specs.declared.units.Units.{Units}
-use Rattle.tick_model.specs.Rules.{IsIn}
 use Rattle.tick_model.specs.Universe.{Fleet}
 use Rattle.tick_model.specs.Views.{belongs}
 use Rattle.tick_model.specs.declared.rules.Rules.{Rules}

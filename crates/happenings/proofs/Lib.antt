@@ -18,3 +18,4 @@ pub mod Numbered
 pub mod Payers
 pub mod Brought
 pub mod Joined
+pub mod Fresh

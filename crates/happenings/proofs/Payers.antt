@@ -1,28 +1,20 @@
 -- The planets that are to pay the items that wait.
-use Rattle.std.proofs.Common.{◌≡◌, ℕ, ◌≤◌, nat_le, true, ◌||◌, ◌&&◌, List, [], ◌∷◌, map, take, length, refl, ap, ◌∙◌, sym, subst, arith, Option, Some}
+use Rattle.std.proofs.Common.{◌≡◌, ℕ, ◌≤◌, nat_le, true, ◌||◌, ◌&&◌, List, [], ◌∷◌, map, take, length, refl, ap, ◌∙◌, sym, arith}
 use Rattle.std.proofs.lemmas.Bool.Decides.{nat_tests}
 use Rattle.std.proofs.lemmas.List.{take_all}
-use Rattle.std.specs.BTreeMap.{get}
-use Rattle.std.specs.Prelude.{option_map}
 use Rattle.std.specs.List.{list_any}
 use Rattle.account_cell.specs.Account.{research_item}
 use Rattle.account_cell.specs.declared.research_item.ResearchItem.{ResearchItem}
 use Rattle.base_ids.specs.Cells.{same_cell}
 use Rattle.base_ids.specs.declared.cell_id.CellId.{CellId}
-use Rattle.base_ids.specs.declared.cell_id.CellId.TheVariants.{Account as AccountId, Planet}
+use Rattle.base_ids.specs.declared.cell_id.CellId.TheVariants.{Planet}
 use Rattle.base_ids.specs.declared.player.Player.{Player}
 use Rattle.closure.proofs.Sameness.{same_cell_swap}
-use Rattle.closure.specs.Closure.{AreBrought}
 use Rattle.closure.specs.Lists.{has}
 use Rattle.tick_model.specs.Events.{is_payer}
 use Rattle.tick_model.specs.Game.{research_brings}
 use Rattle.tick_model.specs.Universe.{Researches}
-use Rattle.tick_model.specs.Views.{View}
-use Rattle.happenings.specs.Held.{Stand, account_stand}
-use Rattle.happenings.specs.Orders.{player_order}
-use Rattle.happenings.specs.Sights.{AreAllPayers, is_payer_by, sees_held}
-use Rattle.happenings.specs.declared.held.AccountCell.{AccountCell}
-use Rattle.happenings.specs.declared.held.Held.{Held}
+use Rattle.happenings.specs.Sights.{AreAllPayers, is_payer_by}
 
 -- the places at which items are paid
 abbrev pub payers_of : List ResearchItem → List CellId

@@ -28,7 +28,7 @@ FindsFirst held moment found =
     → MatchOption found (NoneDue (game setting) (holds held) moment f.universe) (IsFirstEvent setting held moment f)
 
 -- It can happen: the cells show a universe that keeps the rules, and owe the event. They have all cells that it needs, of which none
--- stands later.
+-- stands later. (If ships come to stay, their planet has room for them, since their owner's account counts all that the owner has.)
 pub record CanHappen (held : Held) (what : Happening) : Type 0 where
   pub setting : Setting
   pub stamps : Stamps (game setting)

@@ -13,6 +13,8 @@ mod merging;
 mod numbering;
 mod queue;
 mod researching;
+#[cfg(test)]
+mod tests;
 
 pub use applying::apply;
 pub use due::Due;

@@ -1,4 +1,4 @@
-use Rattle.std.proofs.Common.{◌≡◌, ap, ◌∙◌, refl, filter}
+use Rattle.std.proofs.Common.{ap, ◌∙◌, refl, filter}
 use Rattle.std.specs.Prelude.{option_map}
 use Rattle.base_ids.specs.declared.cell_id.CellId.TheVariants.{Account as AccountId}
 use Rattle.fleet_rec.specs.Fleet.{cargo_seen, fleet_seen}

@@ -10,7 +10,7 @@ use Rattle.happenings.specs.Orders.{player_order}
 use Rattle.happenings.specs.Queues.{seen_of}
 use Rattle.happenings.specs.declared.held.Held.{Held}
 use Rattle.happenings.proofs.Acting.{named_account}
-use Rattle.happenings.proofs.Left.{nothing_left, puts_left}
+use Rattle.happenings.proofs.Left.{puts_left}
 use Rattle.happenings.proofs.Numbered.{account_still_named}
 use Rattle.happenings.proofs.Putting.{player_puts}
 use Rattle.happenings.proofs.held.Held.leave_account.Goals as goal

@@ -1,10 +1,9 @@
-use Rattle.std.proofs.Common.{◌≡◌, ap, ◌∙◌, sym, refl, subst, filter}
+use Rattle.std.proofs.Common.{ap, ◌∙◌, sym, subst, filter}
 use Rattle.std.specs.Prelude.{option_map}
 use Rattle.base_ids.specs.declared.cell_id.CellId.TheVariants.{Planet as PlanetId}
 use Rattle.fleet_rec.specs.Fleet.{cargo_seen, fleet_seen}
 use Rattle.fleet_rec.specs.Fleets.{AreOutbound, after_landing}
 use Rattle.happenings.specs.Held.{planet_stand}
-use Rattle.happenings.specs.Landings.{stand_left}
 use Rattle.happenings.specs.declared.held.PlanetCell.{PlanetCell}
 use Rattle.happenings.proofs.Landed.{planet_left}
 use Rattle.tick_model.specs.Views.{belongs}
