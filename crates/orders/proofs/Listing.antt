@@ -1,4 +1,4 @@
--- Lines that are written one for each element of a list, and how many of some fleets are a player's.
+-- Lines that are written one for each element of a list.
 use Rattle.std.proofs.Common.{◌≡◌, ℕ, ◌+◌, ◌<◌, ◌≤◌, Bool, true, false, cond, List, [], ◌∷◌, ◌++◌, map, length, get_or, drop, refl, ap, sym, ◌∙◌, append_assoc, arith, inl, inr}
 use Rattle.std.specs.Prelude.{IsTrue, nat_lt, sum, sum_by}
 use Rattle.std.specs.List.{list_any}

@@ -74,7 +74,7 @@ fn a_fleet_is_sent_and_called_back(rt: HostRuntime) -> Result<(), Fail> {
     refuses(&rt, alloc, &mut own, b"recall 8", NO_FLEET)?;
     let acted = asked(alloc, &mut own, b"recall 7", 100)?;
     assert_eq!(rt; acted.code, 0);
-    assert!(rt; acted.body.as_slice() == b"back 200\n");
+    assert!(rt; acted.body.as_slice() == b"back 200\n".as_slice());
     let back = b"fleet 7 7 transport 1:1:1 1:1:2 back 200 100 0 0 smallcargo=2\n";
     grants(&rt, alloc, &mut own, b"fleets", back)?;
     assert_eq!(rt; own.fleets.from.len(), 1);
@@ -89,10 +89,22 @@ fn each_refusal_of_a_fleet_is_told(rt: HostRuntime) -> Result<(), Fail> {
     let alloc = rt.alloc();
     let mut own = parts(&rt, alloc, 500)?;
     let cases = [
-        (b"send 1:1:1 1:1:2 deploy 10 smallcargo=3 0 0 0".as_slice(), NO_SHIPS),
-        (b"send 1:1:1 1:1:2 deploy 10 smallcargo=1 0 0 0", BAD_MISSION),
-        (b"send 1:1:1 1:1:1 transport 10 smallcargo=1 0 0 0", BAD_MISSION),
-        (b"send 1:1:1 1:1:2 transport 10 smallcargo=1 4999 0 0", NO_ROOM),
+        (
+            b"send 1:1:1 1:1:2 deploy 10 smallcargo=3 0 0 0".as_slice(),
+            NO_SHIPS,
+        ),
+        (
+            b"send 1:1:1 1:1:2 deploy 10 smallcargo=1 0 0 0",
+            BAD_MISSION,
+        ),
+        (
+            b"send 1:1:1 1:1:1 transport 10 smallcargo=1 0 0 0",
+            BAD_MISSION,
+        ),
+        (
+            b"send 1:1:1 1:1:2 transport 10 smallcargo=1 4999 0 0",
+            NO_ROOM,
+        ),
         (b"send 1:1:1 1:1:2 transport 10 smallcargo=1 501 0 0", POOR),
         (b"send 1:1:1 1:1:2 transport 10 smallcargo=1 0 0 499", POOR),
     ];

@@ -77,10 +77,25 @@ pub fn call_back(
     ensures { AreCalledBack account.now to_owner.now (fleet_seen fleet) fleet.number moment fleets.old fleets.new }
 {
     let number = fleet.number;
-    call_back_in(CellId::Account(account.player), &mut fleets.caller, number, moment);
-    call_back_in(CellId::Planet(fleet.origin), &mut fleets.from, number, moment);
+    call_back_in(
+        CellId::Account(account.player),
+        &mut fleets.caller,
+        number,
+        moment,
+    );
+    call_back_in(
+        CellId::Planet(fleet.origin),
+        &mut fleets.from,
+        number,
+        moment,
+    );
     call_back_in(CellId::Planet(fleet.target), &mut fleets.to, number, moment);
     if let Some(owner) = to_owner {
-        call_back_in(CellId::Account(owner.player), &mut fleets.to_owner, number, moment);
+        call_back_in(
+            CellId::Account(owner.player),
+            &mut fleets.to_owner,
+            number,
+            moment,
+        );
     }
 }

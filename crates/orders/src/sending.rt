@@ -111,7 +111,14 @@ pub fn send(
     let owner = owner_there(account.player, &parts.to);
     let fleet = errand.launched(account, owner, rules, moment);
     let body = arrival(alloc, fleet.second, errand.fuel(account))?;
-    let fleets = joined(alloc, account, &parts.to_owner, &parts.fleets, errand, fleet)?;
+    let fleets = joined(
+        alloc,
+        account,
+        &parts.to_owner,
+        &parts.fleets,
+        errand,
+        fleet,
+    )?;
     planet.depart(errand.load(account), &errand.ships);
     parts.fleets = fleets;
     Ok(Acted { code: 0, body })

@@ -82,12 +82,7 @@ fn workshops(alloc: Global, units: u64) -> Planet
 }
 
 /// The account of a player, with these technologies and so many units.
-pub fn account_with(
-    alloc: Global,
-    k: u32,
-    n: [u8; 14],
-    units: u32,
-) -> Result<Account, AllocError>
+pub fn account_with(alloc: Global, k: u32, n: [u8; 14], units: u32) -> Result<Account, AllocError>
     requires from { 1 ≤ k }
     requires to { k ≤ 65535 }
     requires levels { AreTechsWithinCaps n [] }

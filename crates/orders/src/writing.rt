@@ -118,11 +118,7 @@ fn push_planets(alloc: Global, body: &mut Bytes, planets: &[Coord]) -> Result<()
 }
 
 /// A line for each of the fleets that is the player's. It fails only if memory runs out.
-pub fn own_fleet_lines(
-    alloc: Global,
-    fleets: &Fleets,
-    player: Player,
-) -> Result<Bytes, AllocError>
+pub fn own_fleet_lines(alloc: Global, fleets: &Fleets, player: Player) -> Result<Bytes, AllocError>
     ensures { IfOk result (λ body. body ≡ fleet_lines (own_fleets player fleets.now)) }
 {
     let mut body = Bytes::new(alloc);
@@ -172,11 +168,7 @@ pub fn system_lines(alloc: Global, planets: &[SystemPlanet]) -> Result<Bytes, Al
 
 /// Appends a line for each planet of a system.
 #[tactic(auto, using(crate::proofs::Listing::next_system_planet))]
-fn push_system(
-    alloc: Global,
-    body: &mut Bytes,
-    planets: &[SystemPlanet],
-) -> Result<(), AllocError>
+fn push_system(alloc: Global, body: &mut Bytes, planets: &[SystemPlanet]) -> Result<(), AllocError>
     ensures { OnOk result (body.new ≡ body.old ++ system_text planets.now) }
 {
     'planets: for planet in planets {
