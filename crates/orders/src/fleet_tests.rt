@@ -2,9 +2,10 @@ ghost use Rattle.std.specs.Prelude.{◌≤◌};
 ghost use Rattle.catalog.specs.declared.amounts.TheConstants.{CAP};
 
 use crate::tests::{account_with, asked, grants, parts_of, planet, refuses};
-use crate::{Parts, SystemPlanet};
+use crate::{PartFleets, Parts, SystemPlanet};
 use base_ids::{Coord, Player};
 use catalog::{Amounts, Ships, UNITS};
+use fleet_rec::Fleets;
 use planet_cell::Planet;
 use std::alloc::Global;
 use std::process::Abort;
@@ -30,6 +31,7 @@ fn harbour(rt: &impl Abort, alloc: Global, units: u64) -> Planet
 }
 
 /// Player 1 sends to the planet of player 2, and has so many units of each resource and two small cargos.
+#[tactic(auto, using(account_cell::proofs::Queues::caps_fresh))]
 fn parts(rt: &impl Abort, alloc: Global, units: u64) -> Result<Parts, Fail>
     requires { units ≤ CAP }
 {
@@ -42,19 +44,22 @@ fn parts(rt: &impl Abort, alloc: Global, units: u64) -> Result<Parts, Fail>
     Ok(parts)
 }
 
-/// The fleet that was sent gets a number.
-fn number(rt: &impl Abort, parts: &mut Parts, number: u64) {
-    assert!(rt; number <= 1000);
-    let fleets = &mut parts.fleets;
-    for links in [
-        &mut fleets.caller,
-        &mut fleets.from,
-        &mut fleets.to,
-        &mut fleets.to_owner,
-    ] {
-        assert!(rt; links.len() > 0);
-        links.number_last(number);
-    }
+/// The fleet that joined these last gets a number.
+fn number_in(rt: &impl Abort, fleets: &mut Fleets, number: u64)
+    requires { number ≤ 1000 }
+{
+    assert!(rt; fleets.len() > 0);
+    fleets.number_last(number);
+}
+
+/// The fleet that was sent gets a number, in all parts.
+fn number(rt: &impl Abort, fleets: &mut PartFleets, number: u64)
+    requires { number ≤ 1000 }
+{
+    number_in(rt, &mut fleets.caller, number);
+    number_in(rt, &mut fleets.from, number);
+    number_in(rt, &mut fleets.to, number);
+    number_in(rt, &mut fleets.to_owner, number);
 }
 
 #[test]
@@ -66,7 +71,7 @@ fn a_fleet_is_sent_and_called_back(rt: HostRuntime) -> Result<(), Fail> {
     let planet =
         b"planet 1:1:1 1 -20 163 0\nstock 400 500 497\nhourly 20 10 0\nlimit 10000 10000 10000\nenergy 0 0\ndebris 0 0\n";
     grants(&rt, alloc, &mut own, b"planet 1:1:1", planet)?;
-    number(&rt, &mut own, 7);
+    number(&rt, &mut own.fleets, 7);
     let account = b"account 1 2 1 1\nplanet 1:1:1\n";
     grants(&rt, alloc, &mut own, b"account", account)?;
     let flies = b"fleet 7 7 transport 1:1:1 1:1:2 out 4972 100 0 0 smallcargo=2\n";
