@@ -1,5 +1,5 @@
 -- Cells without fleets, and a first fleet that joins them.
-use Rattle.std.proofs.Common.{◌≡◌, ◌≤◌, ◌+◌, Bool, true, false, cond, ◌++◌, List, [], ◌∷◌, arith, inl, inr, refl, ap, ◌∙◌, sym, subst, Option, Some, None}
+use Rattle.std.proofs.Common.{◌≡◌, ◌≤◌, true, false, cond, ◌++◌, [], ◌∷◌, arith, inl, inr, refl, ap, ◌∙◌, sym, subst, Option, Some, None}
 use Rattle.std.specs.Prelude.{IfSome, filter, is_some, option_map}
 use Rattle.std.specs.BTreeMap.{is_at}
 use Rattle.std.specs.Map.{lookup}
