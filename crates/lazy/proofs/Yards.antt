@@ -19,12 +19,12 @@ use Rattle.lazy.specs.Running.{first_turn, is_running, ran_stand, run_until, tur
 use Rattle.lazy.proofs.Turns.{running-is}
 
 -- one cell more
-pub turn-more : (held : Held) (names : List CellId) (i : ℕ) (name : CellId) (first next limit : ℕ) → i < length names → name ≡ get_or names i name → next ≡ turn_at first (held_at held name)
+pub turn-more : (held : Held) (names : List CellId) (i : ℕ) (name : CellId) (first next limit : ℕ) → i < length names → name ≡ get_or names i name → next ≡ turn_at first name (held_at held name)
     → first_turn held first (drop i names) ≡ first_turn held limit names → first_turn held next (drop (i + 1) names) ≡ first_turn held limit names
 turn-more held names i name first next limit below is turns so_far =
     let one : i + 1 ≡ suc i = omega arith in
     ap (λ n. first_turn held n (drop (i + 1) names)) turns
-    ∙ (λ j. first_turn held (turn_at first (held_at held (is j))) (drop (one j) names))
+    ∙ (λ j. first_turn held (turn_at first (is j) (held_at held (is j))) (drop (one j) names))
     ∙ ap (first_turn held first) (sym (drop-cons names i name below))
     ∙ so_far
 
@@ -65,10 +65,10 @@ queues-ran copy new came buildings yard Yard = yard
 -- a copy of a planet whose yard ran
 pub planet-ran : (rules : Rules) (until : ℕ) (cell : PlanetCell) (copy new : Planet) → AreSame cell.planet copy
     → yard_of new ≡ ticked_yard rules.speed cell.second (until - cell.second) (yard_of copy) → buildings_of new ≡ buildings_of copy
-    → planet_stand (record { second = until; planet = new }) ≡ run_until rules until (planet_stand cell)
+    → planet_stand (record { second = until; planet = new; fleets = cell.fleets }) ≡ run_until rules until (planet_stand cell)
 planet-ran rules until cell copy new same works buildings =
-    let old : PlanetCell = record { second = cell.second; planet = copy } in
+    let old : PlanetCell = record { second = cell.second; planet = copy; fleets = cell.fleets } in
     let came = ticked_yard rules.speed cell.second (until - cell.second) (yard_of copy) in
     let queue = fun_ext (queues-ran copy new came buildings (ap (λ (w : Works). w.queue) works)) in
-    (λ i. record { second = until; seen = planet_seen (of_planet (works i).planet) (queue i) })
-    ∙ ap (run_until rules until) (sym (same_stand cell old refl same))
+    (λ i. record { second = until; seen = planet_seen (of_planet (works i).planet) (queue i) cell.fleets })
+    ∙ ap (run_until rules until) (sym (same_stand cell old refl same refl))
