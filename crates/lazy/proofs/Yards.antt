@@ -1,8 +1,10 @@
 -- Yards of cells that are held, as code lets them run.
-use Rattle.std.proofs.Common.{◌≡◌, ℕ, suc, ◌+◌, ◌-◌, ◌<◌, ◌≤◌, true, false, cond, List, drop, get_or, length, drop-cons, arith, refl, ap, ◌∙◌, sym, subst, Option, Some, None}
+use Rattle.std.proofs.Common.{◌≡◌, ℕ, suc, ◌+◌, ◌-◌, ◌<◌, ◌≤◌, true, false, cond, List, [], ◌∷◌, drop, get_or, length, drop-cons, arith, refl, ap, ◌∙◌, sym, subst, Option, Some, None}
 use Rattle.std.proofs.Math.Path.{fun_ext}
 use Rattle.std.specs.Prelude.{option_map}
 use Rattle.base_ids.specs.declared.cell_id.CellId.{CellId}
+use Rattle.base_ids.specs.declared.cell_id.CellId.TheVariants.{Account}
+use Rattle.base_ids.specs.declared.player.Player.{Player}
 use Rattle.happenings.specs.Held.{account_stand, held_at, planet_stand}
 use Rattle.happenings.specs.declared.held.AccountCell.{AccountCell}
 use Rattle.happenings.specs.declared.held.Held.{Held}
@@ -13,9 +15,9 @@ use Rattle.planet_cell.specs.Planet.{AreSame, batches_of, buildings_of, queue_of
 use Rattle.planet_cell.specs.Yard.{IsAhead, ticked_yard, yard_of}
 use Rattle.planet_cell.specs.declared.planet.Planet.{Planet}
 use Rattle.tick_model.specs.Buildings.{Works}
-use Rattle.tick_model.specs.Universe.{Buildings, Researches, Yard, QueueClass, of_planet}
+use Rattle.tick_model.specs.Universe.{Buildings, Researches, Yard, Fleet, QueueClass, of_planet}
 use Rattle.tick_model.specs.declared.rules.Rules.{Rules}
-use Rattle.lazy.specs.Running.{first_turn, is_running, ran_stand, run_until, turn_at, with_yard}
+use Rattle.lazy.specs.Running.{first_turn, is_running, landing_second, ran_stand, run_until, turn_at, with_yard}
 use Rattle.lazy.proofs.Turns.{running-is}
 
 -- one cell more
@@ -27,6 +29,11 @@ turn-more held names i name first next limit below is turns so_far =
     ∙ (λ j. first_turn held (turn_at first (is j) (held_at held (is j))) (drop (one j) names))
     ∙ ap (first_turn held first) (sym (drop-cons names i name below))
     ∙ so_far
+
+-- no fleet lands at an account
+pub account-landing : (limit : ℕ) (player : Player) (fleets : List Fleet) → landing_second limit (Account player) fleets ≡ limit
+account-landing limit player [] = refl
+account-landing limit player (fleet ∷ later) = account-landing limit player later
 
 -- accounts have no yards
 pub account-stays : (rules : Rules) (limit : ℕ) (o : Option AccountCell) → ran_stand rules limit (option_map account_stand o) ≡ None
