@@ -271,7 +271,7 @@ module _ (setting : Setting) (f : Stamps (game setting)) (old new : Held) (event
 
   stands-there : Owes (view setting.cells there (home event)) event
   stands-there =
-      let seconds = λ x. cond (footprint event x) (second_of event - f.at x) 0 in
+      let seconds : CellId → ℕ = λ x. cond (footprint event x) (second_of event - f.at x) 0 in
       subst (λ v. Owes v event) (sym (view-advanced setting seconds f.universe (home event)))
       (gains-owe setting.rules (seconds (home event)) (view setting.cells f.universe (home event)) event stands)
 
