@@ -5,33 +5,37 @@ use Rattle.base_ids.specs.Cells.{same_cell}
 use Rattle.base_ids.specs.declared.cell_id.CellId.{CellId}
 use Rattle.base_ids.specs.declared.player.Player.{Player}
 use Rattle.happenings.specs.Held.{IsNamed, ShowsCell, Stand, held_at, holds}
-use Rattle.happenings.specs.Numbering.{numbered_at, numbered_stand}
+use Rattle.fleet_rec.specs.Fleet.{fleet_seen}
+use Rattle.happenings.specs.Numbering.{fleet_numbered, numbered_stand}
 use Rattle.happenings.specs.Queues.{class_of, home_of}
 use Rattle.happenings.specs.declared.held.Held.{Held}
-use Rattle.happenings.specs.declared.queue.Queue.{Queue}
 use Rattle.laziness.specs.Stamps.{Stamps, request_acts}
 use Rattle.lazy.specs.Planning.{IsAnswered}
-use Rattle.lazy.specs.Plans.{IsPlan, reply_with}
+use Rattle.lazy.specs.Plans.{IsPlan, ordered_at, reply_with}
+use Rattle.lazy.specs.declared.ordered.Ordered.{Ordered}
+use Rattle.lazy.specs.declared.ordered.Ordered.TheVariants.{Item, Fleet}
 use Rattle.lazy.specs.declared.planning.Plan.{Plan}
 use Rattle.request_text.specs.declared.request.Request.{Request}
 use Rattle.tick_model.specs.Game.{game}
-use Rattle.tick_model.specs.Universe.{QueueClass, Setting}
+use Rattle.tick_model.specs.Universe.{Setting}
+use Rattle.tick_model.specs.Views.{belongs}
 
-still-some : (b : Bool) (number : ℕ) (class : QueueClass) (o : Option Stand) → is_some (cond b (option_map (numbered_stand number class) o) o) ≡ is_some o
-still-some true number class None = refl
-still-some true number class (Some stand) = refl
-still-some false number class o = refl
+still-some : (b : Bool) (changed : Stand → Stand) (o : Option Stand) → is_some (cond b (option_map changed o) o) ≡ is_some o
+still-some true changed None = refl
+still-some true changed (Some stand) = refl
+still-some false changed o = refl
 
-numbered-held : (number : ℕ) (ordered : Option Queue) (held : Held) (cell : CellId) → is_some (numbered_at number ordered held cell) ≡ holds held cell
-numbered-held number None held cell = refl
-numbered-held number (Some queue) held cell = still-some (same_cell (home_of queue) cell) number (class_of queue) (held_at held cell)
+ordered-held : (number : ℕ) (ordered : Option Ordered) (held : Held) (cell : CellId) → is_some (ordered_at number ordered held cell) ≡ holds held cell
+ordered-held number None held cell = refl
+ordered-held number (Some (Item queue)) held cell = still-some (same_cell (home_of queue) cell) (numbered_stand number (class_of queue)) (held_at held cell)
+ordered-held number (Some (Fleet fleet)) held cell = still-some (belongs cell (fleet_seen fleet)) (fleet_numbered number) (held_at held cell)
 
 -- the cells and the reply are the answer
 pub plan-answers : (setting : Setting) (f : Stamps (game setting)) (held : Held) (player : Player) (req : Request) (moment number : ℕ) (plan : Plan) (cells : Held)
-    → ((cell : CellId) → held_at cells cell ≡ numbered_at number plan.ordered plan.cells cell) → (IsNamed plan.cells → IsNamed cells)
+    → ((cell : CellId) → held_at cells cell ≡ ordered_at number plan.ordered plan.cells cell) → (IsNamed plan.cells → IsNamed cells)
     → IsPlan setting held player req moment f plan → IsAnswered setting held player req moment number f cells (reply_with number plan)
 plan-answers setting f held player req moment number plan cells numbers named is = record {
-  same = λ cell. ap is_some (numbers cell) ∙ numbered-held number plan.ordered plan.cells cell ∙ is.same cell;
+  same = λ cell. ap is_some (numbers cell) ∙ ordered-held number plan.ordered plan.cells cell ∙ is.same cell;
   named = named is.named;
   shows = λ entry is_player is_req next cell.
       subst (λ (o : Option Stand). IfSome o (ShowsCell setting (request_acts (game setting) (holds held) moment entry f) cell)) (sym (numbers cell)) (is.shows number entry next is_player is_req cell);
