@@ -1,9 +1,10 @@
 -- The cells of a base are held, one after the other.
-use Rattle.std.proofs.Common.{◌≡◌, ℕ, ◌+◌, ◌<◌, ◌≤◌, Bool, true, false, cond, List, [], ◌∷◌, ◌++◌, length, get_or, take, map, append_assoc, Option, Some, refl, ap, ◌∙◌, sym, subst, arith}
+use Rattle.std.proofs.Common.{◌≡◌, ℕ, ◌+◌, ◌<◌, ◌≤◌, Bool, true, false, cond, List, [], ◌∷◌, ◌++◌, length, get_or, take, map, append_assoc, Option, None, Some, refl, ap, ◌∙◌, sym, subst, arith}
 use Rattle.std.proofs.Math.Path.{fun_ext}
 use Rattle.std.proofs.lemmas.Simd.{map-map}
-use Rattle.std.proofs.lemmas.List.{get_or-map, length-map, map-append, take_more}
-use Rattle.std.specs.Prelude.{AllPairs, IfSome, is_some, ◌||◌}
+use Rattle.std.proofs.lemmas.List.{get_or-map, length-map, map-append, take_all, take_more}
+use Rattle.std.specs.Prelude.{AllPairs, IfSome, filter, is_some, option_map, ◌||◌}
+use Rattle.std.proofs.lemmas.List.Elements.{filter-append}
 use Rattle.std.specs.Coded.{le_prop}
 use Rattle.std.specs.List.{Contains}
 use Rattle.account_cell.specs.Account.{AreSame as AreSameAccount, account_queue, research_item}
@@ -23,15 +24,20 @@ use Rattle.closure.specs.declared.places.Places.{Places}
 use Rattle.closure.specs.declared.spot.Spot.{Spot}
 use Rattle.closure.proofs.Sameness.{same_cell_swap}
 use Rattle.closure.proofs.Unions.{has-append}
+use Rattle.fleet_rec.specs.Fleet.{fleet_seen}
+use Rattle.fleet_rec.specs.declared.fleet.Fleet.{Fleet}
+use Rattle.fleet_rec.specs.declared.fleets.Fleets.{Fleets}
 use Rattle.happenings.specs.Held.{IsNamed, Puts, ShowsCell, Stand, account_stand, held_at, planet_stand}
+use Rattle.happenings.specs.Joining.{Joins, joined_stand}
 use Rattle.happenings.specs.declared.held.Held.{Held}
 use Rattle.planet_cell.specs.Planet.{AreSame, batch_item_of, item_of, queue_of}
 use Rattle.planet_cell.specs.declared.planet.Planet.{Planet}
 use Rattle.tick_model.specs.Keeping.{lazily_at}
-use Rattle.tick_model.specs.Universe.{Buildings, QueueClass, Researches, Yard, of_account, of_planet}
+use Rattle.tick_model.specs.Universe.{Fleet as FleetSeen, Buildings, QueueClass, Researches, Yard, of_account, of_planet}
+use Rattle.tick_model.specs.Views.{View, belongs, view}
 use Rattle.tick_model.proofs.Lists.{cell-is}
 use Rattle.tick_model.specs.declared.rules.Rules.{Rules}
-use Rattle.lazy.specs.Beginning.{HoldsOf, player_of, spot_of}
+use Rattle.lazy.specs.Beginning.{HoldsOf, HoldsWith, ShowsWith, player_of, spot_of}
 use Rattle.lazy.specs.Keeping.{Keeps}
 use Rattle.lazy.specs.declared.universe.LazyUniverse.{LazyUniverse}
 
@@ -55,16 +61,16 @@ put-shown : (P : Stand → Type 0) (b : Bool) (stand : Stand) (found : Option St
 put-shown P true stand found here before = here refl
 put-shown P false stand found here before = before
 
--- a cell that shows the base is held besides
-pub holds-more : (base : Base) (names : List CellId) (old new : Held) (name : CellId) (stand : Stand) → HoldsOf base names old → Puts old new name stand → (IsNamed old → IsNamed new)
-    → ShowsCell (setting_of base) (lazily_at (universe_of base) []) name stand → HoldsOf base (names ++ name ∷ []) new
+-- a cell that shows the base without its fleets is held besides
+holds-more : (base : Base) (names : List CellId) (old new : Held) (name : CellId) (stand : Stand) → HoldsWith base [] names old → Puts old new name stand → (IsNamed old → IsNamed new)
+    → ShowsWith base [] name stand → HoldsWith base [] (names ++ name ∷ []) new
 holds-more base names old new name stand holds puts named shows = record {
   named = named holds.named;
   held = λ cell. ap is_some (puts cell) ∙ put-held (same_cell name cell) stand (held_at old cell) (has names cell) (holds.held cell)
       ∙ ap (λ b. has names cell || b) (same_cell_swap name cell ∙ alone (same_cell cell name)) ∙ sym (has-append names (name ∷ []) cell);
-  shows = λ cell. subst (λ found. IfSome found (ShowsCell (setting_of base) (lazily_at (universe_of base) []) cell)) (sym (puts cell))
-      (put-shown (ShowsCell (setting_of base) (lazily_at (universe_of base) []) cell) (same_cell name cell) stand (held_at old cell)
-      (λ same. subst (λ c. ShowsCell (setting_of base) (lazily_at (universe_of base) []) c stand) (cell-is name cell same) shows) (holds.shows cell));
+  shows = λ cell. subst (λ found. IfSome found (ShowsWith base [] cell)) (sym (puts cell))
+      (put-shown (ShowsWith base [] cell) (same_cell name cell) stand (held_at old cell)
+      (λ same. subst (λ c. ShowsWith base [] c stand) (cell-is name cell same) shows) (holds.shows cell));
 }
   where
     alone : (b : Bool) → b ≡ (b || false)
@@ -82,25 +88,26 @@ planet-queues planet copy same Buildings = λ i. map (item_of (sym same.at i)) (
 planet-queues planet copy same Researches = refl
 planet-queues planet copy same Yard = λ i. map (batch_item_of (sym same.at i)) (sym same.yard i)
 
--- a copy of an account of the base shows it
-account-shows : (base : Base) (account copy : Account) → IsSound base → Contains base.accounts.items account → AreSameAccount account copy
-    → ShowsCell (setting_of base) (lazily_at (universe_of base) []) (AccountId account.player) (account_stand (record { second = base.moment; account = copy }))
-account-shows base account copy sound is equal =
+-- a copy of an account of the base shows it, but for its fleets
+account-shows : (base : Base) (account copy : Account) (fleets : Fleets) → IsSound base → Contains base.accounts.items account → AreSameAccount account copy → fleets ≡ []
+    → ShowsWith base [] (AccountId account.player) (account_stand (record { second = base.moment; account = copy; fleets = fleets }))
+account-shows base account copy fleets sound is equal empty =
     let queue = fun_ext (account-queues account copy equal) in
     record {
       second = refl;
-      seen = (λ i. record { own = of_account (record { techs = sym equal.techs i }); queue = queue i; fleets = []; planets = sym equal.planets i; units = sym equal.units i })
-          ∙ sym (account-shown base account sound is);
+      seen = (λ i. record { own = of_account (record { techs = sym equal.techs i }); queue = queue i; fleets = empty i; planets = sym equal.planets i; units = sym equal.units i })
+          ∙ sym (ap (λ (seen : View). record seen { fleets = [] }) (account-shown base account sound is));
     }
 
 -- so does one of a planet
-planet-shows : (base : Base) (planet copy : Planet) → IsSound base → Contains base.planets.items planet → AreSame planet copy
-    → ShowsCell (setting_of base) (lazily_at (universe_of base) []) (PlanetId planet.at) (planet_stand (record { second = base.moment; planet = copy }))
-planet-shows base planet copy sound is same =
+planet-shows : (base : Base) (planet copy : Planet) (fleets : Fleets) → IsSound base → Contains base.planets.items planet → AreSame planet copy → fleets ≡ []
+    → ShowsWith base [] (PlanetId planet.at) (planet_stand (record { second = base.moment; planet = copy; fleets = fleets }))
+planet-shows base planet copy fleets sound is same empty =
     let queue = fun_ext (planet-queues planet copy same) in
     record {
       second = refl;
-      seen = (λ i. record { own = of_planet (sym same.fields i); queue = queue i; fleets = []; planets = []; units = 0 }) ∙ sym (planet-shown base planet sound is);
+      seen = (λ i. record { own = of_planet (sym same.fields i); queue = queue i; fleets = empty i; planets = []; units = 0 })
+          ∙ sym (ap (λ (seen : View). record seen { fleets = [] }) (planet-shown base planet sound is));
     }
 
 taken-more : {A : Type 0} (f : A → CellId) (front : List CellId) (xs : List A) (i : ℕ) (x : A) → i < length xs → x ≡ get_or xs i x
@@ -109,26 +116,72 @@ taken-more f front xs i x below is =
     append_assoc front (map f (take i xs)) (f x ∷ [])
     ∙ ap (λ rest. front ++ rest) (sym (ap (map f) (take_more xs i x below) ∙ map-append f (take i xs) (get_or xs i x ∷ []) ∙ ap (λ y. map f (take i xs) ++ f y ∷ []) (sym is)))
 
-pub accounts-more : (base : Base) (old new : Held) (i : ℕ) (account copy : Account) → IsSound base → i < length base.accounts.items → account ≡ get_or base.accounts.items i account
-    → AreSameAccount account copy → HoldsOf base (map (λ account. AccountId account.player) (take i base.accounts.items)) old
-    → Puts old new (AccountId copy.player) (account_stand (record { second = base.moment; account = copy })) → (IsNamed old → IsNamed new)
-    → HoldsOf base (map (λ account. AccountId account.player) (take (i + 1) base.accounts.items)) new
-accounts-more base old new i account copy sound below is equal holds puts named =
-    subst (λ names. HoldsOf base names new) (taken-more (λ (account : Account). AccountId account.player) [] base.accounts.items i account below is)
-    (holds-more base (map (λ account. AccountId account.player) (take i base.accounts.items)) old new (AccountId account.player) (account_stand (record { second = base.moment; account = copy })) holds
-    (subst (λ k. Puts old new (AccountId k) (account_stand (record { second = base.moment; account = copy }))) (sym equal.player) puts) named
-    (account-shows base account copy sound (i, below, sym is) equal))
+pub accounts-more : (base : Base) (old new : Held) (i : ℕ) (account copy : Account) (fleets : Fleets) → IsSound base → i < length base.accounts.items → account ≡ get_or base.accounts.items i account
+    → AreSameAccount account copy → fleets ≡ [] → HoldsWith base [] (map (λ account. AccountId account.player) (take i base.accounts.items)) old
+    → Puts old new (AccountId copy.player) (account_stand (record { second = base.moment; account = copy; fleets = fleets })) → (IsNamed old → IsNamed new)
+    → HoldsWith base [] (map (λ account. AccountId account.player) (take (i + 1) base.accounts.items)) new
+accounts-more base old new i account copy fleets sound below is equal empty holds puts named =
+    let stand = account_stand (record { second = base.moment; account = copy; fleets = fleets }) in
+    subst (λ names. HoldsWith base [] names new) (taken-more (λ (account : Account). AccountId account.player) [] base.accounts.items i account below is)
+    (holds-more base (map (λ account. AccountId account.player) (take i base.accounts.items)) old new (AccountId account.player) stand holds
+    (subst (λ k. Puts old new (AccountId k) stand) (sym equal.player) puts) named
+    (account-shows base account copy fleets sound (i, below, sym is) equal empty))
 
-pub planets-more : (base : Base) (old new : Held) (i : ℕ) (planet copy : Planet) → IsSound base → i < length base.planets.items → planet ≡ get_or base.planets.items i planet
-    → AreSame planet copy → HoldsOf base (map (λ account. AccountId account.player) base.accounts.items ++ map (λ planet. PlanetId planet.at) (take i base.planets.items)) old
-    → Puts old new (PlanetId copy.at) (planet_stand (record { second = base.moment; planet = copy })) → (IsNamed old → IsNamed new)
-    → HoldsOf base (map (λ account. AccountId account.player) base.accounts.items ++ map (λ planet. PlanetId planet.at) (take (i + 1) base.planets.items)) new
-planets-more base old new i planet copy sound below is same holds puts named =
+pub planets-more : (base : Base) (old new : Held) (i : ℕ) (planet copy : Planet) (fleets : Fleets) → IsSound base → i < length base.planets.items → planet ≡ get_or base.planets.items i planet
+    → AreSame planet copy → fleets ≡ [] → HoldsWith base [] (map (λ account. AccountId account.player) base.accounts.items ++ map (λ planet. PlanetId planet.at) (take i base.planets.items)) old
+    → Puts old new (PlanetId copy.at) (planet_stand (record { second = base.moment; planet = copy; fleets = fleets })) → (IsNamed old → IsNamed new)
+    → HoldsWith base [] (map (λ account. AccountId account.player) base.accounts.items ++ map (λ planet. PlanetId planet.at) (take (i + 1) base.planets.items)) new
+planets-more base old new i planet copy fleets sound below is same empty holds puts named =
     let front = map (λ (account : Account). AccountId account.player) base.accounts.items in
-    subst (λ names. HoldsOf base names new) (taken-more (λ (planet : Planet). PlanetId planet.at) front base.planets.items i planet below is)
-    (holds-more base (front ++ map (λ planet. PlanetId planet.at) (take i base.planets.items)) old new (PlanetId planet.at) (planet_stand (record { second = base.moment; planet = copy })) holds
-    (subst (λ k. Puts old new (PlanetId k) (planet_stand (record { second = base.moment; planet = copy }))) (sym same.at) puts) named
-    (planet-shows base planet copy sound (i, below, sym is) same))
+    let stand = planet_stand (record { second = base.moment; planet = copy; fleets = fleets }) in
+    subst (λ names. HoldsWith base [] names new) (taken-more (λ (planet : Planet). PlanetId planet.at) front base.planets.items i planet below is)
+    (holds-more base (front ++ map (λ planet. PlanetId planet.at) (take i base.planets.items)) old new (PlanetId planet.at) stand holds
+    (subst (λ k. Puts old new (PlanetId k) stand) (sym same.at) puts) named
+    (planet-shows base planet copy fleets sound (i, below, sym is) same empty))
+
+-- Fleets join those of their cells.
+
+join-held : (fleet : FleetSeen) (cell : CellId) (found : Option Stand) → is_some (option_map (joined_stand fleet cell) found) ≡ is_some found
+join-held fleet cell None = refl
+join-held fleet cell (Some stand) = refl
+
+join-shown : (base : Base) (front : List FleetSeen) (fleet : FleetSeen) (cell : CellId) (found : Option Stand) → IfSome found (ShowsWith base front cell)
+    → IfSome (option_map (joined_stand fleet cell) found) (ShowsWith base (front ++ fleet ∷ []) cell)
+join-shown base front fleet cell None shows = tt
+join-shown base front fleet cell (Some stand) shows = record {
+  second = shows.second;
+  seen = ap (λ (seen : View). record seen { fleets = seen.fleets ++ filter (belongs cell) (fleet ∷ []) }) shows.seen
+      ∙ ap (λ fleets. record (view (setting_of base).cells (universe_of base).state cell) { fleets = fleets }) (sym (filter-append (belongs cell) front (fleet ∷ [])));
+}
+
+joins-more : (base : Base) (names : List CellId) (old new : Held) (front : List FleetSeen) (fleet : FleetSeen) → HoldsWith base front names old → Joins fleet old new
+    → (IsNamed old → IsNamed new) → HoldsWith base (front ++ fleet ∷ []) names new
+joins-more base names old new front fleet holds joins named = record {
+  named = named holds.named;
+  held = λ cell. ap is_some (joins cell) ∙ join-held fleet cell (held_at old cell) ∙ holds.held cell;
+  shows = λ cell. subst (λ found. IfSome found (ShowsWith base (front ++ fleet ∷ []) cell)) (sym (joins cell)) (join-shown base front fleet cell (held_at old cell) (holds.shows cell));
+}
+
+-- one fleet more
+pub fleets-more : (base : Base) (names : List CellId) (old new : Held) (fleets : List Fleet) (i : ℕ) (fleet : Fleet) → i < length fleets → fleet ≡ get_or fleets i fleet
+    → HoldsWith base (map fleet_seen (take i fleets)) names old → Joins (fleet_seen fleet) old new → (IsNamed old → IsNamed new)
+    → HoldsWith base (map fleet_seen (take (i + 1) fleets)) names new
+fleets-more base names old new fleets i fleet below is holds joins named =
+    let more : map fleet_seen (take i fleets) ++ fleet_seen fleet ∷ [] ≡ map fleet_seen (take (i + 1) fleets) =
+    sym (ap (map fleet_seen) (take_more fleets i fleet below) ∙ map-append fleet_seen (take i fleets) (get_or fleets i fleet ∷ []) ∙ ap (λ y. map fleet_seen (take i fleets) ++ fleet_seen y ∷ []) (sym is)) in
+    subst (λ front. HoldsWith base front names new) more (joins-more base names old new (map fleet_seen (take i fleets)) (fleet_seen fleet) holds joins named)
+
+all-shown : (base : Base) (cell : CellId) (found : Option Stand) → IfSome found (ShowsWith base base.fleets cell) → IfSome found (ShowsCell (setting_of base) (lazily_at (universe_of base) []) cell)
+all-shown base cell None shows = tt
+all-shown base cell (Some stand) shows = record { second = shows.second; seen = shows.seen }
+
+-- with all fleets the base is held
+pub all-joined : (base : Base) (names : List CellId) (cells : Held) (fleets : List Fleet) (i : ℕ) → length fleets ≤ i → map fleet_seen fleets ≡ base.fleets
+    → HoldsWith base (map fleet_seen (take i fleets)) names cells → HoldsOf base names cells
+all-joined base names cells fleets i past same holds =
+    let all : HoldsWith base base.fleets names cells =
+    subst (λ front. HoldsWith base front names cells) (ap (map fleet_seen) (take_all fleets i past) ∙ same) holds in
+    record { named = all.named; held = all.held; shows = λ cell. all-shown base cell (held_at cells cell) (all.shows cell) }
 
 -- rules are the same if seed and speed are
 rules-same : (one other : Rules) → one.seed ≡ other.seed → one.speed ≡ other.speed → one ≡ other
