@@ -139,50 +139,6 @@ planets-more base old new i planet copy fleets sound below is same empty holds p
     (subst (λ k. Puts old new (PlanetId k) stand) (sym same.at) puts) named
     (planet-shows base planet copy fleets sound (i, below, sym is) same empty))
 
--- Fleets join those of their cells.
-
-join-held : (fleet : FleetSeen) (cell : CellId) (found : Option Stand) → is_some (option_map (joined_stand fleet cell) found) ≡ is_some found
-join-held fleet cell None = refl
-join-held fleet cell (Some stand) = refl
-
-join-shown : (base : Base) (front : List FleetSeen) (fleet : FleetSeen) (cell : CellId) (found : Option Stand) → IfSome found (ShowsWith base front cell)
-    → IfSome (option_map (joined_stand fleet cell) found) (ShowsWith base (front ++ fleet ∷ []) cell)
-join-shown base front fleet cell None shows = tt
-join-shown base front fleet cell (Some stand) shows = record {
-  second = shows.second;
-  seen = ap (λ (seen : View). record seen { fleets = seen.fleets ++ filter (belongs cell) (fleet ∷ []) }) shows.seen
-      ∙ ap (λ fleets. record (view (setting_of base).cells (universe_of base).state cell) { fleets = fleets }) (sym (filter-append (belongs cell) front (fleet ∷ [])));
-}
-
-joins-more : (base : Base) (names : List CellId) (old new : Held) (front : List FleetSeen) (fleet : FleetSeen) → HoldsWith base front names old → Joins fleet old new
-    → (IsNamed old → IsNamed new) → HoldsWith base (front ++ fleet ∷ []) names new
-joins-more base names old new front fleet holds joins named = record {
-  named = named holds.named;
-  held = λ cell. ap is_some (joins cell) ∙ join-held fleet cell (held_at old cell) ∙ holds.held cell;
-  shows = λ cell. subst (λ found. IfSome found (ShowsWith base (front ++ fleet ∷ []) cell)) (sym (joins cell)) (join-shown base front fleet cell (held_at old cell) (holds.shows cell));
-}
-
--- one fleet more
-pub fleets-more : (base : Base) (names : List CellId) (old new : Held) (fleets : List Fleet) (i : ℕ) (fleet : Fleet) → i < length fleets → fleet ≡ get_or fleets i fleet
-    → HoldsWith base (map fleet_seen (take i fleets)) names old → Joins (fleet_seen fleet) old new → (IsNamed old → IsNamed new)
-    → HoldsWith base (map fleet_seen (take (i + 1) fleets)) names new
-fleets-more base names old new fleets i fleet below is holds joins named =
-    let more : map fleet_seen (take i fleets) ++ fleet_seen fleet ∷ [] ≡ map fleet_seen (take (i + 1) fleets) =
-    sym (ap (map fleet_seen) (take_more fleets i fleet below) ∙ map-append fleet_seen (take i fleets) (get_or fleets i fleet ∷ []) ∙ ap (λ y. map fleet_seen (take i fleets) ++ fleet_seen y ∷ []) (sym is)) in
-    subst (λ front. HoldsWith base front names new) more (joins-more base names old new (map fleet_seen (take i fleets)) (fleet_seen fleet) holds joins named)
-
-all-shown : (base : Base) (cell : CellId) (found : Option Stand) → IfSome found (ShowsWith base base.fleets cell) → IfSome found (ShowsCell (setting_of base) (lazily_at (universe_of base) []) cell)
-all-shown base cell None shows = tt
-all-shown base cell (Some stand) shows = record { second = shows.second; seen = shows.seen }
-
--- with all fleets the base is held
-pub all-joined : (base : Base) (names : List CellId) (cells : Held) (fleets : List Fleet) (i : ℕ) → length fleets ≤ i → map fleet_seen fleets ≡ base.fleets
-    → HoldsWith base (map fleet_seen (take i fleets)) names cells → HoldsOf base names cells
-all-joined base names cells fleets i past same holds =
-    let all : HoldsWith base base.fleets names cells =
-    subst (λ front. HoldsWith base front names cells) (ap (map fleet_seen) (take_all fleets i past) ∙ same) holds in
-    record { named = all.named; held = all.held; shows = λ cell. all-shown base cell (held_at cells cell) (all.shows cell) }
-
 -- rules are the same if seed and speed are
 rules-same : (one other : Rules) → one.seed ≡ other.seed → one.speed ≡ other.speed → one ≡ other
 rules-same one other seed speed =
