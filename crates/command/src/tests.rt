@@ -2,6 +2,7 @@ ghost use Rattle.std.specs.Prelude.{None};
 
 mod buildings;
 mod dumps;
+mod flights;
 mod researches;
 mod yards;
 
@@ -115,8 +116,9 @@ const SHORT_ANSWERS: [Answers; 13] = [
         b"bad 1\nbad 1\nbad 1\n",
     ),
     (
-        b"@1 1 fleets\n@1 1 recall 5\n@1 1 send 1:1:1 1:1:2 deploy 10 probe=1 0 0 0\n",
-        b"bad 1\nbad 1\nbad 1\n",
+        b"@1 1 join 1 1:1:1 1:1:2 10 smallcargo=1 0 0 0\n@1 1 send 1:1:1 1:1:2 attack 10 smallcargo=1 0 0 0\n\
+@1 1 send 1:1:1 1:1:2 harvest 10 recycler=1 0 0 0\n@1 2 planet 1:1:1\n",
+        b"bad 1\nbad 1\nbad 1\nno 1 1 1\n",
     ),
     (
         b"@1099511627775 2 planet 1:1:1\n@1099511627776 2 planet 1:1:1\n",
