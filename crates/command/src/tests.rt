@@ -298,7 +298,7 @@ fn answers_at<'a>(
 #[test]
 fn a_line_without_a_reading_reads_the_clock_once(rt: HostRuntime) -> Result<(), Fail> {
     let script =
-        b"2 planet 1:1:1\nplant\n@5 2 planet 1:1:1\n1 fleets\n3 planet 1:1:1\r\n2 planet 9:9:9\n";
+        b"2 planet 1:1:1\nplant\n@5 2 planet 1:1:1\n1 join 1 1:1:1 1:1:2 10 smallcargo=1 0 0 0\n3 planet 1:1:1\r\n2 planet 9:9:9\n";
     let (status, sink, clock) = answers_at(rt.alloc(), script, &[3600, 3500, 3700])?;
     assert_eq!(rt; status, DONE);
     let wanted = b"no 1 3600 1\nbad 1\nno 2 3600 1\nbad 1\nno 3 3600 1\nno 4 3700 1\n";
