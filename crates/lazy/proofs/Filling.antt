@@ -1,10 +1,9 @@
 -- The cells of a base are held, one after the other.
-use Rattle.std.proofs.Common.{◌≡◌, ℕ, ◌+◌, ◌<◌, ◌≤◌, Bool, true, false, cond, List, [], ◌∷◌, ◌++◌, length, get_or, take, map, append_assoc, Option, None, Some, refl, ap, ◌∙◌, sym, subst, arith}
+use Rattle.std.proofs.Common.{◌≡◌, ℕ, ◌+◌, ◌<◌, ◌≤◌, Bool, true, false, cond, List, [], ◌∷◌, ◌++◌, length, get_or, take, map, append_assoc, Option, Some, refl, ap, ◌∙◌, sym, subst, arith}
 use Rattle.std.proofs.Math.Path.{fun_ext}
 use Rattle.std.proofs.lemmas.Simd.{map-map}
-use Rattle.std.proofs.lemmas.List.{get_or-map, length-map, map-append, take_all, take_more}
-use Rattle.std.specs.Prelude.{AllPairs, IfSome, filter, is_some, option_map, ◌||◌}
-use Rattle.std.proofs.lemmas.List.Elements.{filter-append}
+use Rattle.std.proofs.lemmas.List.{get_or-map, length-map, map-append, take_more}
+use Rattle.std.specs.Prelude.{AllPairs, IfSome, is_some, ◌||◌}
 use Rattle.std.specs.Coded.{le_prop}
 use Rattle.std.specs.List.{Contains}
 use Rattle.account_cell.specs.Account.{AreSame as AreSameAccount, account_queue, research_item}
@@ -24,17 +23,13 @@ use Rattle.closure.specs.declared.places.Places.{Places}
 use Rattle.closure.specs.declared.spot.Spot.{Spot}
 use Rattle.closure.proofs.Sameness.{same_cell_swap}
 use Rattle.closure.proofs.Unions.{has-append}
-use Rattle.fleet_rec.specs.Fleet.{fleet_seen}
-use Rattle.fleet_rec.specs.declared.fleet.Fleet.{Fleet}
 use Rattle.fleet_rec.specs.declared.fleets.Fleets.{Fleets}
-use Rattle.happenings.specs.Held.{IsNamed, Puts, ShowsCell, Stand, account_stand, held_at, planet_stand}
-use Rattle.happenings.specs.Joining.{Joins, joined_stand}
+use Rattle.happenings.specs.Held.{IsNamed, Puts, Stand, account_stand, held_at, planet_stand}
 use Rattle.happenings.specs.declared.held.Held.{Held}
 use Rattle.planet_cell.specs.Planet.{AreSame, batch_item_of, item_of, queue_of}
 use Rattle.planet_cell.specs.declared.planet.Planet.{Planet}
-use Rattle.tick_model.specs.Keeping.{lazily_at}
-use Rattle.tick_model.specs.Universe.{Fleet as FleetSeen, Buildings, QueueClass, Researches, Yard, of_account, of_planet}
-use Rattle.tick_model.specs.Views.{View, belongs, view}
+use Rattle.tick_model.specs.Universe.{Buildings, QueueClass, Researches, Yard, of_account, of_planet}
+use Rattle.tick_model.specs.Views.{View}
 use Rattle.tick_model.proofs.Lists.{cell-is}
 use Rattle.tick_model.specs.declared.rules.Rules.{Rules}
 use Rattle.lazy.specs.Beginning.{HoldsOf, HoldsWith, ShowsWith, player_of, spot_of}

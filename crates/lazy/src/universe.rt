@@ -82,7 +82,15 @@ impl LazyUniverse {
     {
         let moment = reading.max(self.moment);
         let cells = self.touched(alloc, player, req, moment)?;
-        let plan = prepare(alloc, &self.rules, &self.places, &cells, player, req, moment)?;
+        let plan = prepare(
+            alloc,
+            &self.rules,
+            &self.places,
+            &cells,
+            player,
+            req,
+            moment,
+        )?;
         let (cells, reply) = plan.finish(self.number + 1);
         Ok(Prepared {
             cells,

@@ -6,7 +6,8 @@ use std::alloc::Global;
 use std::test::Fail;
 
 /// Two planets of one player, and a small cargo on the first.
-const ONE_CARGO: &[u8] = b"universe 7 1 1000 0\nplayer 1\nplanet 1:1:1 1 40 163\nplanet 1:1:2 1 40 163\n\
+const ONE_CARGO: &[u8] =
+    b"universe 7 1 1000 0\nplayer 1\nplanet 1:1:1 1 40 163\nplanet 1:1:2 1 40 163\n\
 tech 1 combustion 2\nstock 1:1:1 1000 1000 100\nunits 1:1:1 smallcargo 1\n.\n";
 
 /// What `trial` writes for a founding text and a script is what is wanted.
@@ -69,7 +70,8 @@ ok 3 9078\naccount 1 1 0 1\ntech combustion 2\nplanet 1:1:1\nplanet 1:1:2\n.\n",
 }
 
 /// Planets of two players: the first has a small cargo, little crystal room to spare, and no deuterium.
-const POOR: &[u8] = b"universe 7 1 1000 0\nplayer 1\nplayer 2\nplanet 1:1:1 1 40 19\nplanet 1:1:2 2 40 163\n\
+const POOR: &[u8] =
+    b"universe 7 1 1000 0\nplayer 1\nplayer 2\nplanet 1:1:1 1 40 19\nplanet 1:1:2 2 40 163\n\
 tech 1 combustion 2\nlevel 1:1:1 metalmine 2\nlevel 1:1:1 crystalstore 16\nunits 1:1:1 smallcargo 1\n.\n";
 
 #[test]
@@ -85,7 +87,8 @@ fn each_refusal_of_a_fleet_has_its_code(rt: HostRuntime) -> Result<(), Fail> {
 }
 
 /// Two planets of one player, with two small cargos on the first.
-const TWO_CARGOS: &[u8] = b"universe 7 1 1000 0\nplayer 1\nplanet 1:1:1 1 40 163\nplanet 1:1:2 1 40 163\n\
+const TWO_CARGOS: &[u8] =
+    b"universe 7 1 1000 0\nplayer 1\nplanet 1:1:1 1 40 163\nplanet 1:1:2 1 40 163\n\
 tech 1 combustion 2\nstock 1:1:1 1000 1000 100\nunits 1:1:1 smallcargo 2\n.\n";
 
 #[test]
@@ -121,7 +124,8 @@ const TWO_TRANSPORTS: &[u8] = b"@0 1 send 1:1:1 1:1:2 transport 10 smallcargo=1 
 @0 2 send 1:1:2 1:1:3 transport 10 smallcargo=1 0 0 0\n@4539 3 planet 1:1:3\n";
 
 /// The answers, and all cells: the fourth player's stand where they stood.
-const TWO_TRANSPORTS_TOLD: &[u8] = b"ok 1 0\narrives 4539 fuel 2\n.\nok 2 0\narrives 4539 fuel 2\n.\n\
+const TWO_TRANSPORTS_TOLD: &[u8] =
+    b"ok 1 0\narrives 4539 fuel 2\n.\nok 2 0\narrives 4539 fuel 2\n.\n\
 ok 3 4539\nplanet 1:1:3 3 40 163 0\nstock 525 512 0\nhourly 20 10 0\nlimit 10000 10000 10000\n\
 energy 0 0\ndebris 0 0\n.\n\
 cell account 1 at 4539\naccount 1 1 1 1\ntech combustion 2\nplanet 1:1:1\nfleet 1 1 transport 1:1:1 1:1:2 back 9078 0 0 0 smallcargo=1\n\
@@ -148,7 +152,8 @@ fn fleets_that_meet_at_a_planet_bring_each_others_cells(rt: HostRuntime) -> Resu
 }
 
 /// Three planets of one player, with a small cargo on each of the first two.
-const CHAIN: &[u8] = b"universe 7 1 1000 0\nplayer 1\nplanet 1:1:1 1 40 163\nplanet 1:1:2 1 40 163\nplanet 1:1:3 1 40 163\n\
+const CHAIN: &[u8] =
+    b"universe 7 1 1000 0\nplayer 1\nplanet 1:1:1 1 40 163\nplanet 1:1:2 1 40 163\nplanet 1:1:3 1 40 163\n\
 tech 1 combustion 2\ntech 1 computer 1\nstock 1:1:1 500 500 10\nstock 1:1:2 500 500 10\n\
 units 1:1:1 smallcargo 1\nunits 1:1:2 smallcargo 1\n.\n";
 
