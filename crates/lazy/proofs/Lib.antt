@@ -4,6 +4,7 @@ pub mod Least
 pub mod Preparing
 pub mod Filling
 pub mod Texts
+pub mod Links
 pub mod Coursing
 pub mod Waiting
 pub mod Outcoming

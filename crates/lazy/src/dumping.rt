@@ -11,8 +11,8 @@ ghost use Rattle.tick_model.specs.Universe.{Setting};
 use base_ids::{Coord, Player};
 use base_text::Bytes;
 use closure::{Places, Spot};
-use happenings::{AccountCell, Held, PlanetCell};
 use fleet_rec::Fleet;
+use happenings::{AccountCell, Held, PlanetCell};
 use orders::{account_lines, own_fleet_lines, planet_lines};
 use std::alloc::{AllocError, Global};
 use tick_model::Rules;
@@ -130,6 +130,7 @@ fn push_planet_name(
 }
 
 // Appends a link for each of the fleets.
+#[tactic(auto, using(crate::proofs::Links::next_link))]
 fn push_links(alloc: Global, text: &mut Bytes, fleets: &[Fleet]) -> Result<(), AllocError>
     ensures { OnOk result (text.new ≡ text.old ++ link_lines (map fleet_seen fleets.now)) }
 {
@@ -140,6 +141,7 @@ fn push_links(alloc: Global, text: &mut Bytes, fleets: &[Fleet]) -> Result<(), A
 }
 
 // Appends a link for each of the fleets that isn't the player's.
+#[tactic(auto, using(crate::proofs::Links::next_other))]
 fn push_other_links(
     alloc: Global,
     text: &mut Bytes,
