@@ -1,8 +1,8 @@
 -- Parts that are taken from held cells.
-use Rattle.std.proofs.Common.{◌≡◌, ℕ, ◌+◌, ◌<◌, List, [], ◌∷◌, ◌++◌, map, length, get_or, take, true, false, cond, refl, ap, ◌∙◌, sym, subst, Option, Some, None}
+use Rattle.std.proofs.Common.{◌≡◌, ℕ, ◌+◌, ◌<◌, Bool, List, [], ◌∷◌, ◌++◌, map, length, get_or, take, true, false, cond, refl, ap, ◌∙◌, sym, subst, Option, Some, None}
 use Rattle.std.specs.Prelude.{IfSome, MatchOption, is_some, option_map}
 use Rattle.std.specs.BTreeMap.{get}
-use Rattle.std.specs.List.{filter_map}
+use Rattle.std.specs.List.{cons_option, filter_map}
 use Rattle.std.proofs.lemmas.List.{map-append, take_more}
 use Rattle.std.proofs.lemmas.List.Elements.{filter_map-append}
 use Rattle.account_cell.specs.Account.{AreSame as AreSameAccounts}
@@ -113,11 +113,14 @@ no-account : (player : Player) (account : Option AccountOfProgram) (fleets : Lis
 no-account player None fleets none = record { whose = tt; seen = refl }
 no-account player (Some account) fleets none = absurd cc
 
+skipped : (b : Bool) (rest : List SystemPlanet) → rest ≡ [] → cons_option (cond b None None) rest ≡ []
+skipped true rest is = is
+skipped false rest is = is
+
 nothing-shown : (system : System) (cells : List CellId) → planets_seen system cells (λ cell. nothing_seen) ≡ []
 nothing-shown system [] = refl
 nothing-shown system (Account player ∷ later) = nothing-shown system later
-nothing-shown system (Planet at ∷ later) =
-    elim (in_system system (Planet at)) as (λ b. filter_map (λ cell. cond b None None) (Planet at ∷ []) ++ planets_seen system later (λ cell. nothing_seen) ≡ []) [ true ↦ nothing-shown system later | false ↦ nothing-shown system later ]
+nothing-shown system (Planet at ∷ later) = skipped (in_system system (Planet at)) (planets_seen system later (λ cell. nothing_seen)) (nothing-shown system later)
 
 pub none_taken : (cells : List CellId) (player : Player) (req : Request) (parts : Parts) → parts.caller ≡ None → parts.from ≡ None → parts.to ≡ None → parts.to_owner ≡ None → parts.seen.items ≡ []
     → AreTaken cells (λ cell. nothing_seen) player req parts
