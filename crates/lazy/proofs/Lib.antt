@@ -1,3 +1,5 @@
+pub mod Taken
+pub mod Finishing
 pub mod Stepping
 pub mod Continuing
 pub mod Least

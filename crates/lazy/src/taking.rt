@@ -259,10 +259,11 @@ pub fn put_parts(
     ensures puts { OnOk result (PutsParts from to parts moment cells.old cells.new) }
     ensures named { OnOk result (IsNamed cells.old → IsNamed cells.new) }
 {
-    put_account(cells, parts.caller, parts.fleets.caller, moment)?;
-    put_planet(cells, from, parts.from, parts.fleets.from, moment)?;
-    put_planet(cells, to, parts.to, parts.fleets.to, moment)?;
-    put_account(cells, parts.to_owner, parts.fleets.to_owner, moment)
+    let fleets = parts.fleets;
+    put_account(cells, parts.caller, fleets.caller, moment)?;
+    put_planet(cells, from, parts.from, fleets.from, moment)?;
+    put_planet(cells, to, parts.to, fleets.to, moment)?;
+    put_account(cells, parts.to_owner, fleets.to_owner, moment)
 }
 
 /// Holds the account at a moment, if there is one. It fails only if memory runs out.
