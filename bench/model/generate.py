@@ -419,7 +419,7 @@ def send_wrongly(script):
         f"{EMPTY_PLACE} {near} transport 10 {ship}=1 0 0 0",
         f"{rng.choice(foreign)} {near} transport 10 {ship}=1 0 0 0",
     ]
-    for tail in rng.sample(tails, 3):
+    for tail in rng.sample(tails, 4):
         script.say(rng.choice([origin.owner] * 9 + [STRANGER]), f"send {tail}", script.now())
 
 
@@ -454,7 +454,7 @@ def ask_wrongly(script):
     player, stranger_to_it = rng.sample(PLAYERS, 2)
     words = {"planet": "", "build": " lab", "research": " energy", "yard": " launcher 1", "set": " satellite 5"}
     form, word = rng.choice(list(words.items()))
-    script.say(STRANGER, rng.choice(["account", *[f"{form} {EMPTY_PLACE}{word}"] * 3]))
+    script.say(STRANGER, rng.choice(["account", "fleets", "system 1:10", *[f"{form} {EMPTY_PLACE}{word}"] * 3]))
     script.say(player, f"{form} {EMPTY_PLACE}{word}")
     script.say(stranger_to_it, f"{form} {rng.choice(script.places_of(player))}{word}")
 
