@@ -449,14 +449,16 @@ def set_work(script):
 
 
 def ask_wrongly(script):
-    """A stranger asks, and a player for a place without a planet and for somebody else's planet."""
-    rng = script.rng
-    player, stranger_to_it = rng.sample(PLAYERS, 2)
-    words = {"planet": "", "build": " lab", "research": " energy", "yard": " launcher 1", "set": " satellite 5"}
-    form, word = rng.choice(list(words.items()))
-    script.say(STRANGER, rng.choice(["account", "fleets", "system 1:10", *[f"{form} {EMPTY_PLACE}{word}"] * 3]))
-    script.say(player, f"{form} {EMPTY_PLACE}{word}")
-    script.say(stranger_to_it, f"{form} {rng.choice(script.places_of(player))}{word}")
+    """In each form a stranger asks, and a player for a place without a planet and for somebody else's planet."""
+    player, stranger_to_it = script.rng.sample(PLAYERS, 2)
+    for request in ("account", "fleets", "system 1:10", "recall 1"):
+        script.say(STRANGER, request)
+    send = " 1:10:1 transport 10 probe=1 0 0 0"
+    words = {"planet": "", "build": " lab", "research": " energy", "yard": " launcher 1", "set": " satellite 5", "send": send}
+    for form, word in words.items():
+        script.say(STRANGER, f"{form} {EMPTY_PLACE}{word}")
+        script.say(player, f"{form} {EMPTY_PLACE}{word}")
+        script.say(stranger_to_it, f"{form} {script.rng.choice(script.places_of(player))}{word}")
 
 
 def bad_line(script):
@@ -494,17 +496,17 @@ def last_touches(script):
 SCENES = {
     ask: 10,
     build: 5,
-    build_too_much: 1.2,
+    build_too_much: 1.6,
     fill_fields: 1,
     build_often: 2,
     research: 3,
     research_often: 2,
     order_units: 5,
     order_domes: 1,
-    yard_often: 2,
+    yard_often: 3,
     improve_yard: 1,
     spend_all: 3,
-    graviton: 1,
+    graviton: 1.5,
     ceiling: 1,
     set_work: 3,
     send: 9,
@@ -513,8 +515,8 @@ SCENES = {
     send_wrongly: 2.5,
     recall: 5,
     ask_fleets: 5,
-    ask_wrongly: 3,
-    bad_line: 1,
+    ask_wrongly: 0.5,
+    bad_line: 1.5,
 }
 
 
