@@ -5,7 +5,8 @@
     compare.py FIRST_SEED LAST_SEED LINES cases FOLDER
 
 Each script is compared as it is drawn, and with a program again with spoiled lines. With `plainly` only scripts of at most
-100000 seconds are taken. With `cases` the scripts and what the model says are written into a folder, for `rt try --cases`. Tells the first difference of each script, and at the end how often each answer came.
+100000 seconds are taken. With `cases` nothing is compared: the same scripts and what the model says of them are written into a
+folder, for `rt try --cases`. Tells the first difference of each script, and at the end how often each answer came.
 """
 
 import random
@@ -68,15 +69,23 @@ def program_output(program, data):
     return with_status(ended.stdout.decode().splitlines(), ended.returncode)
 
 
+def write_case(name, data, model):
+    """A case for `rt try --cases`, which does not compare the status."""
+    folder = Path(sys.argv[5])
+    folder.mkdir(parents=True, exist_ok=True)
+    (folder / name).write_bytes(data)
+    (folder / f"{name}.stdout").write_text("".join(line + "\n" for line in model[:-1]))
+
+
 def differences(program, lines, seed):
     rng = random.Random(seed)
     data = "".join(line + "\n" for line in lines).encode()
     model = with_status(*output_of(data, True, False))
     if program == "cases":
-        folder, name = Path(sys.argv[5]), f"seed{seed}"
-        folder.mkdir(parents=True, exist_ok=True)
-        (folder / name).write_bytes(data)
-        (folder / f"{name}.stdout").write_text("".join(line + "\n" for line in model[:-1]))
+        write_case(f"seed{seed}", data, model)
+        for index in range(3):
+            data = "\n".join(spoiled(lines, rng)).encode()
+            write_case(f"seed{seed}spoiled{index}", data, with_status(*output_of(data, True, False)))
         return
     if program == "plainly":
         yield first_difference(model, with_status(*output_of(data, True, True)))

@@ -187,7 +187,7 @@ def fill_fields(script):
 def build_often(script):
     """More items than a queue takes."""
     player, place = script.player_and_place()
-    for _ in range(script.rng.randint(3, 6)):
+    for _ in range(script.rng.randint(4, 7)):
         script.say(player, f"build {place} {script.rng.choice(BUILDINGS[:8])}", script.now())
 
 
@@ -243,8 +243,9 @@ def order_domes(script):
 def yard_often(script):
     """More batches than a yard takes."""
     for planet, units in rich_planets(script, UNITS):
-        for unit in script.rng.choices(units, k=script.rng.randint(3, 6)):
-            count = script.rng.choice([1, 1, 2, 5])
+        cheap = [unit for unit, count in affordable(script, planet) if count > 10 and unit not in DOMES]
+        for unit in script.rng.choices(cheap or units, k=script.rng.randint(4, 7)):
+            count = script.rng.choice([1, 1, 1, 2])
             script.say(planet.owner, f"yard {text(planet.place)} {unit} {count}", script.now())
         return
 
@@ -293,7 +294,7 @@ def graviton(script):
     for tenths in (9, 10, 10):
         script.say(2, f"set {place} satellite {tenths}", script.now())
         script.say(2, f"research {place} graviton", script.now())
-    script.say(2, f"set {place} satellite {rng.choice([9, 10])}", script.now())
+    script.say(2, f"set {place} satellite {rng.choice([9, 9, 10])}", script.now())
     script.say(2, "account", script.now())
 
 
@@ -475,7 +476,7 @@ def bad_line(script):
         "@5 1 yard 1:1:1 launcher 0",
         "@5 1 account 1",
         "@1099511627776 1 account",
-        *["@5 1 planet " + "1" * 400] * 3,
+        *["@5 1 planet " + "1" * 400] * 5,
     ]
     script.write(script.rng.choice(lines), "")
 
@@ -496,7 +497,7 @@ def last_touches(script):
 SCENES = {
     ask: 10,
     build: 5,
-    build_too_much: 1.6,
+    build_too_much: 2.5,
     fill_fields: 1,
     build_often: 2,
     research: 3,
@@ -511,12 +512,11 @@ SCENES = {
     set_work: 3,
     send: 9,
     send_to_meet: 5,
-    send_often: 3,
+    send_often: 4,
     send_wrongly: 2.5,
     recall: 5,
     ask_fleets: 5,
-    ask_wrongly: 0.5,
-    bad_line: 1.5,
+    bad_line: 2,
 }
 
 
@@ -524,6 +524,7 @@ def draw_script(seed, lines):
     script = Script(random.Random(seed))
     most = len(script.lines) + lines - 20
     beginning(script)
+    ask_wrongly(script)
     while len(script.lines) < most:
         [scene] = script.rng.choices(list(SCENES), SCENES.values())
         scene(script)
