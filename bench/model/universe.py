@@ -268,7 +268,8 @@ class Universe:
     def arrive(self, fleet):
         """A fleet arrives at its target: a transport turns back, empty, and a deployed fleet stays."""
         target = self.planets[fleet.target]
-        self.seen["stock full"] += any(GRAINS * part + grains > MOST_STOCK * GRAINS for part, grains in zip(fleet.cargo, target.grains))
+        full = MOST_STOCK * GRAINS
+        self.seen["stock full"] += any(part * GRAINS + grains > full for part, grains in zip(fleet.cargo, target.grains))
         target.take(fleet.cargo)
         self.seen[fleet.mission + " arrives"] += 1
         if fleet.mission == "deploy":
