@@ -1,6 +1,7 @@
 pub mod Taken
 pub mod Finishing
 pub mod Stepping
+pub mod Parting
 pub mod Continuing
 pub mod Least
 pub mod Preparing
