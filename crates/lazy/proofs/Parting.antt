@@ -45,8 +45,12 @@ pub record IsApart (sight : Sight) (player : Player) (req : Request) (cell : Cel
   pub caller : same_cell (Account player) cell ≡ false
   pub from : is_named (from_place player (flown sight player) req) cell ≡ false
   pub to : is_named (to_place player (flown sight player) req) cell ≡ false
-  pub theirs : (at : Coord) (planet : PlanetFields) → to_place player (flown sight player) req ≡ Some at → own_seen sight (Planet at) ≡ of_planet planet
-      → same_player planet.owner player ≡ false → same_cell (Account planet.owner) cell ≡ false
+
+-- nor is it the account of the owner of the planet to which a fleet is sent or flies
+abbrev pub IsForeign : Sight → Player → Request → CellId → Type 0
+IsForeign sight player req cell =
+    (at : Coord) (planet : PlanetFields) → to_place player (flown sight player) req ≡ Some at → own_seen sight (Planet at) ≡ of_planet planet
+    → same_player planet.owner player ≡ false → same_cell (Account planet.owner) cell ≡ false
 
 stands-elsewhere : (sight : Sight) (from to : Coord) (planet : PlanetFields) → own_seen sight (Planet to) ≡ of_planet planet → StandsAt sight (elsewhere from to)
 stands-elsewhere sight from to planet there = at (same_coord from to)
@@ -201,42 +205,8 @@ module _ (setting : Setting) (player : Player) (req : Request) (moment : ℕ) (s
 
   -- A cell that is none of the parts.
   module _ (cell : CellId) (apart : IsApart sight player req cell) where
-    not-theirs : (fleet : Fleet) → IsAbout sight player req fleet → belongs cell fleet ≡ false
-    not-theirs fleet about =
-        let origin : same_cell (Planet fleet.origin) cell ≡ false = ap (λ p. is_named p cell) (sym about.from_is) ∙ apart.from in
-        let owner : same_cell (Account fleet.owner) cell ≡ false = ap (λ k. same_cell (Account k) cell) about.owner ∙ apart.caller in
-        or-none (same_cell (Planet fleet.origin) cell) (same_cell (Account fleet.owner) cell) (fleet.outbound && (same_cell (Planet fleet.target) cell || same_cell (Account fleet.target_owner) cell))
-        origin owner
-        (and-none fleet.outbound (same_cell (Planet fleet.target) cell) (same_cell (Account fleet.target_owner) cell) (not-target (same_coord fleet.origin fleet.target) refl origin)
-        (not-owner (same_coord fleet.origin fleet.target) refl))
-      where
-        not-target : (b : Bool) → same_coord fleet.origin fleet.target ≡ b → same_cell (Planet fleet.origin) cell ≡ false → same_cell (Planet fleet.target) cell ≡ false
-        not-target true same origin = ap (λ x. same_cell x cell) (sym (cell-is (Planet fleet.origin) (Planet fleet.target) same)) ∙ origin
-        not-target false other origin = ap (λ p. is_named p cell) (sym (about.to_is ∙ ap (λ b. cond b None (Some fleet.target)) other)) ∙ apart.to
-
-        own-target : Planet fleet.origin ≡ Planet fleet.target → same_player fleet.target_owner player ≡ true
-        own-target same =
-            let planets : of_planet about.from ≡ of_planet about.to = sym about.leaves ∙ ap (own_seen sight) same ∙ about.reaches in
-            let one : about.from ≡ about.to = cc in
-            let whose : fleet.target_owner ≡ player = sym about.is_theirs ∙ ap (λ (p : PlanetFields). p.owner) (sym one) ∙ about.is_own in
-            ap (λ k. same_player k player) whose ∙ same_number player.k
-
-        not-owner : (b : Bool) → same_coord fleet.origin fleet.target ≡ b → same_cell (Account fleet.target_owner) cell ≡ false
-        not-owner b place =
-            elim (test (same_player fleet.target_owner player)) [
-              | inl mine ↦ ap (λ k. same_cell (Account k) cell) (player-from fleet.target_owner player mine) ∙ apart.caller
-              | inr other ↦ foreign b place other
-            ]
-          where
-            foreign : (b : Bool) → same_coord fleet.origin fleet.target ≡ b → same_player fleet.target_owner player ≡ false → same_cell (Account fleet.target_owner) cell ≡ false
-            foreign true same other = never (same_player fleet.target_owner player) (own-target (cell-is (Planet fleet.origin) (Planet fleet.target) same)) other
-            foreign false elsewhere_is other =
-                ap (λ k. same_cell (Account k) cell) (sym about.is_theirs)
-                ∙ apart.theirs fleet.target about.to (about.to_is ∙ ap (λ b. cond b None (Some fleet.target)) elsewhere_is) about.reaches
-                (ap (λ k. same_player k player) about.is_theirs ∙ other)
-
     -- its own fields stay
-    apart-own : (number : ℕ) → ComesTo sight player req came → (came number).change.own cell ≡ own_seen sight cell
+    pub apart-own : (number : ℕ) → ComesTo sight player req came → (came number).change.own cell ≡ own_seen sight cell
     apart-own number (refuses code reason is) = ap (λ (x : Outcome). x.change.own cell) (is number)
     apart-own number (keeps body own given none alike leaves is) = ap (λ (x : Outcome). x.change.own cell) (is number) ∙ leaves cell apart.from
     apart-own number (orders body own queue item given place joining alike leaves is) = ap (λ (x : Outcome). x.change.own cell) (is number) ∙ leaves cell apart.from
@@ -251,7 +221,7 @@ module _ (setting : Setting) (player : Player) (req : Request) (moment : ℕ) (s
     home-apart Yard at place = ap (λ p. is_named p cell) (sym place) ∙ apart.from
 
     -- and its queues
-    apart-queue : (number : ℕ) (class : QueueClass) → ComesTo sight player req came → (came number).change.requeued cell class ≡ false
+    pub apart-queue : (number : ℕ) (class : QueueClass) → ComesTo sight player req came → (came number).change.requeued cell class ≡ false
     apart-queue number class (refuses code reason is) = ap (λ (x : Outcome). x.change.requeued cell class) (is number)
     apart-queue number class (keeps body own given none alike leaves is) = ap (λ (x : Outcome). x.change.requeued cell class) (is number)
     apart-queue number class (sends_out body own fleet given leaving is) = ap (λ (x : Outcome). x.change.requeued cell class) (is number)
@@ -260,51 +230,86 @@ module _ (setting : Setting) (player : Player) (req : Request) (moment : ℕ) (s
         ap (λ (x : Outcome). x.change.requeued cell class) (is number)
         ∙ first-none (same_cell item.cell cell) _ (ap (λ x. same_cell x cell) joining.home ∙ home-apart item.class item.place joining.named)
 
-    all-belong : (fleet : Fleet) → IsIn fleet (seen cell).fleets → belongs cell fleet ≡ true
-    all-belong fleet is = (from-filter (belongs cell) fleet state.fleets is).1
+    module _ (foreign : IsForeign sight player req cell) where
+      not-theirs : (fleet : Fleet) → IsAbout sight player req fleet → belongs cell fleet ≡ false
+      not-theirs fleet about =
+          let origin : same_cell (Planet fleet.origin) cell ≡ false = ap (λ p. is_named p cell) (sym about.from_is) ∙ apart.from in
+          let owner : same_cell (Account fleet.owner) cell ≡ false = ap (λ k. same_cell (Account k) cell) about.owner ∙ apart.caller in
+          or-none (same_cell (Planet fleet.origin) cell) (same_cell (Account fleet.owner) cell) (fleet.outbound && (same_cell (Planet fleet.target) cell || same_cell (Account fleet.target_owner) cell))
+          origin owner
+          (and-none fleet.outbound (same_cell (Planet fleet.target) cell) (same_cell (Account fleet.target_owner) cell) (not-target (same_coord fleet.origin fleet.target) refl origin)
+          (not-owner (same_coord fleet.origin fleet.target) refl))
+        where
+          not-target : (b : Bool) → same_coord fleet.origin fleet.target ≡ b → same_cell (Planet fleet.origin) cell ≡ false → same_cell (Planet fleet.target) cell ≡ false
+          not-target true same origin = ap (λ x. same_cell x cell) (sym (cell-is (Planet fleet.origin) (Planet fleet.target) same)) ∙ origin
+          not-target false other origin = ap (λ p. is_named p cell) (sym (about.to_is ∙ ap (λ b. cond b None (Some fleet.target)) other)) ∙ apart.to
 
-    same-fleets : filter (belongs cell) (filter_map Some (seen cell).fleets) ++ [] ≡ (seen cell).fleets
-    same-fleets =
-        append-nil (filter (belongs cell) (filter_map Some (seen cell).fleets)) ∙ ap (filter (belongs cell)) (filter_map-all (seen cell).fleets)
-        ∙ filter-all (belongs cell) (seen cell).fleets all-belong
+          own-target : Planet fleet.origin ≡ Planet fleet.target → same_player fleet.target_owner player ≡ true
+          own-target same =
+              let planets : of_planet about.from ≡ of_planet about.to = sym about.leaves ∙ ap (own_seen sight) same ∙ about.reaches in
+              let one : about.from ≡ about.to = cc in
+              let whose : fleet.target_owner ≡ player = sym about.is_theirs ∙ ap (λ (p : PlanetFields). p.owner) (sym one) ∙ about.is_own in
+              ap (λ k. same_player k player) whose ∙ same_number player.k
 
-    -- and its fleets
-    apart-fleets : (number : ℕ) → ComesTo sight player req came → fleets_after (came number).change cell (seen cell).fleets ≡ (seen cell).fleets
-    apart-fleets number (refuses code reason is) = ap (λ (x : Outcome). fleets_after x.change cell (seen cell).fleets) (is number) ∙ same-fleets
-    apart-fleets number (keeps body own given none alike leaves is) = ap (λ (x : Outcome). fleets_after x.change cell (seen cell).fleets) (is number) ∙ same-fleets
-    apart-fleets number (orders body own queue item given place joining alike leaves is) = ap (λ (x : Outcome). fleets_after x.change cell (seen cell).fleets) (is number) ∙ same-fleets
-    apart-fleets number (sends_out body own fleet given leaving is) =
-        let new = record fleet { number = number; group = number } in
-        ap (λ (x : Outcome). fleets_after x.change cell (seen cell).fleets) (is number)
-        ∙ ap (λ b. filter (belongs cell) (filter_map Some (seen cell).fleets) ++ cond b (new ∷ []) []) (not-theirs fleet (leaving-about own fleet leaving))
-        ∙ same-fleets
-    apart-fleets number (calls_back body called fleet account caller none recall found out is) =
-        let about = called-about called fleet recall found out in
-        let flies = called-flies called fleet recall found out in
-        let theirs_is = theirs called fleet recall found out in
-        ap (λ (x : Outcome). fleets_after x.change cell (seen cell).fleets) (is number)
-        ∙ ap (λ fleets. filter (belongs cell) fleets ++ []) (stays-mapped _ (seen cell).fleets (λ other is_in. not-called other is_in about flies theirs_is))
-        ∙ append-nil (filter (belongs cell) (seen cell).fleets)
-        ∙ filter-all (belongs cell) (seen cell).fleets all-belong
-      where
-        not-called : (other : Fleet) → IsIn other (seen cell).fleets → IsAbout sight player req fleet → IsIn fleet state.fleets → IsFleetOf player called.f (flown sight player) fleet
-            → cond (eqb other.number called.f) (called_at moment other) (Some other) ≡ Some other
-        not-called other is_in about flies theirs_is =
-            let apart_number : eqb other.number called.f ≡ false = fails (eqb other.number called.f) (λ same.
-            let one = fleet-one state.fleets other fleet fine.apart (flies-in setting.cells state cell other is_in) flies
-            (ap (λ n. eqb n fleet.number) (number-is other.number called.f same ∙ sym (number-is fleet.number called.f theirs_is.number_is)) ∙ same_number fleet.number) in
-            never (belongs cell fleet) (subst (λ f. belongs cell f ≡ true) one (all-belong other is_in)) (not-theirs fleet about)) in
-            ap (λ b. cond b (called_at moment other) (Some other)) apart_number
+          not-owner : (b : Bool) → same_coord fleet.origin fleet.target ≡ b → same_cell (Account fleet.target_owner) cell ≡ false
+          not-owner b place =
+              elim (test (same_player fleet.target_owner player)) [
+                | inl mine ↦ ap (λ k. same_cell (Account k) cell) (player-from fleet.target_owner player mine) ∙ apart.caller
+                | inr other ↦ others b place other
+              ]
+            where
+              others : (b : Bool) → same_coord fleet.origin fleet.target ≡ b → same_player fleet.target_owner player ≡ false → same_cell (Account fleet.target_owner) cell ≡ false
+              others true same other = never (same_player fleet.target_owner player) (own-target (cell-is (Planet fleet.origin) (Planet fleet.target) same)) other
+              others false elsewhere_is other =
+                  ap (λ k. same_cell (Account k) cell) (sym about.is_theirs)
+                  ∙ foreign fleet.target about.to (about.to_is ∙ ap (λ b. cond b None (Some fleet.target)) elsewhere_is) about.reaches
+                  (ap (λ k. same_player k player) about.is_theirs ∙ other)
 
-    -- so all that is seen of it stays, but for the units of an account
-    pub apart-view : (number : ℕ) → ComesTo sight player req came
-        → after_view (came number).change cell (seen cell) (cond (asks cell) ((came number).change.own cell) (seen cell).own) ≡ seen cell
-    apart-view number comes =
-        let own : cond (asks cell) ((came number).change.own cell) (seen cell).own ≡ (seen cell).own = elim (test (asks cell)) [
-          | inl has ↦
-              ap (λ b. cond b ((came number).change.own cell) (seen cell).own) has ∙ apart-own number comes ∙ ap (λ (v : View). v.own) (shown-there asks seen cell has)
-          | inr out ↦ ap (λ b. cond b ((came number).change.own cell) (seen cell).own) out
-        ] in
-        let queue = fun_ext (λ class. ap (λ b. cond b (came number).change.items ((seen cell).queue class)) (apart-queue number class comes)) in
-        let fleets = apart-fleets number comes in
-        λ i. record (seen cell) { own = own i; queue = queue i; fleets = fleets i }
+      all-belong : (fleet : Fleet) → IsIn fleet (seen cell).fleets → belongs cell fleet ≡ true
+      all-belong fleet is = (from-filter (belongs cell) fleet state.fleets is).1
+
+      same-fleets : filter (belongs cell) (filter_map Some (seen cell).fleets) ++ [] ≡ (seen cell).fleets
+      same-fleets =
+          append-nil (filter (belongs cell) (filter_map Some (seen cell).fleets)) ∙ ap (filter (belongs cell)) (filter_map-all (seen cell).fleets)
+          ∙ filter-all (belongs cell) (seen cell).fleets all-belong
+
+      -- and its fleets
+      apart-fleets : (number : ℕ) → ComesTo sight player req came → fleets_after (came number).change cell (seen cell).fleets ≡ (seen cell).fleets
+      apart-fleets number (refuses code reason is) = ap (λ (x : Outcome). fleets_after x.change cell (seen cell).fleets) (is number) ∙ same-fleets
+      apart-fleets number (keeps body own given none alike leaves is) = ap (λ (x : Outcome). fleets_after x.change cell (seen cell).fleets) (is number) ∙ same-fleets
+      apart-fleets number (orders body own queue item given place joining alike leaves is) = ap (λ (x : Outcome). fleets_after x.change cell (seen cell).fleets) (is number) ∙ same-fleets
+      apart-fleets number (sends_out body own fleet given leaving is) =
+          let new = record fleet { number = number; group = number } in
+          ap (λ (x : Outcome). fleets_after x.change cell (seen cell).fleets) (is number)
+          ∙ ap (λ b. filter (belongs cell) (filter_map Some (seen cell).fleets) ++ cond b (new ∷ []) []) (not-theirs fleet (leaving-about own fleet leaving))
+          ∙ same-fleets
+      apart-fleets number (calls_back body called fleet account caller none recall found out is) =
+          let about = called-about called fleet recall found out in
+          let flies = called-flies called fleet recall found out in
+          let theirs_is = theirs called fleet recall found out in
+          ap (λ (x : Outcome). fleets_after x.change cell (seen cell).fleets) (is number)
+          ∙ ap (λ fleets. filter (belongs cell) fleets ++ []) (stays-mapped _ (seen cell).fleets (λ other is_in. not-called other is_in about flies theirs_is))
+          ∙ append-nil (filter (belongs cell) (seen cell).fleets)
+          ∙ filter-all (belongs cell) (seen cell).fleets all-belong
+        where
+          not-called : (other : Fleet) → IsIn other (seen cell).fleets → IsAbout sight player req fleet → IsIn fleet state.fleets → IsFleetOf player called.f (flown sight player) fleet
+              → cond (eqb other.number called.f) (called_at moment other) (Some other) ≡ Some other
+          not-called other is_in about flies theirs_is =
+              let apart_number : eqb other.number called.f ≡ false = fails (eqb other.number called.f) (λ same.
+              let one = fleet-one state.fleets other fleet fine.apart (flies-in setting.cells state cell other is_in) flies
+              (ap (λ n. eqb n fleet.number) (number-is other.number called.f same ∙ sym (number-is fleet.number called.f theirs_is.number_is)) ∙ same_number fleet.number) in
+              never (belongs cell fleet) (subst (λ f. belongs cell f ≡ true) one (all-belong other is_in)) (not-theirs fleet about)) in
+              ap (λ b. cond b (called_at moment other) (Some other)) apart_number
+
+      -- so all that is seen of it stays, but for the units of an account
+      pub apart-view : (number : ℕ) → ComesTo sight player req came
+          → after_view (came number).change cell (seen cell) (cond (asks cell) ((came number).change.own cell) (seen cell).own) ≡ seen cell
+      apart-view number comes =
+          let own : cond (asks cell) ((came number).change.own cell) (seen cell).own ≡ (seen cell).own = elim (test (asks cell)) [
+            | inl has ↦
+                ap (λ b. cond b ((came number).change.own cell) (seen cell).own) has ∙ apart-own number comes ∙ ap (λ (v : View). v.own) (shown-there asks seen cell has)
+            | inr out ↦ ap (λ b. cond b ((came number).change.own cell) (seen cell).own) out
+          ] in
+          let queue = fun_ext (λ class. ap (λ b. cond b (came number).change.items ((seen cell).queue class)) (apart-queue number class comes)) in
+          let fleets = apart-fleets number comes in
+          λ i. record (seen cell) { own = own i; queue = queue i; fleets = fleets i }

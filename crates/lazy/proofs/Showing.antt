@@ -50,7 +50,7 @@ matched-some None N P Q f p = tt
 matched-some (Some x) N P Q f p = f x refl p
 
 -- what is held is there
-held-there : (held : Held) (cell : CellId) → holds held cell ≡ true → is_there (seen_of (held_at held cell)).own ≡ true
+pub held-there : (held : Held) (cell : CellId) → holds held cell ≡ true → is_there (seen_of (held_at held cell)).own ≡ true
 held-there held (Account player) there = account-there (get player_order held.accounts player) there
   where
     account-there : (o : Option AccountCell) → is_some (option_map account_stand o) ≡ true → is_there (seen_of (option_map account_stand o)).own ≡ true
