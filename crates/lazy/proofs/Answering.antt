@@ -468,8 +468,7 @@ module _ (setting : Setting) (kept : Rules) (places : Places) (held : Held) (pla
           fleets-before =
               let there : is_there (account_seen after.caller after.fleets.caller).own ≡ true =
               ap (λ (v : View). is_there v.own) comes.caller ∙ own-there setting player req moment state fine 0 (Account player) comes_to ∙ ap is_there given.caller in
-              let account = account-some after.caller after.fleets.caller there in
-              (
+              let account = account-some after.caller after.fleets.caller there in (
                 (sight.seen (Account player)).fleets,
                 sym (ap (λ (o : Option AccountOfProgram). (account_seen o after.fleets.caller).fleets) account.1) ∙ ap (λ (v : View). v.fleets) comes.caller,
               )

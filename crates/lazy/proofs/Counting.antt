@@ -330,7 +330,7 @@ module _ (setting : Setting) (player : Player) (req : Request) (moment : ℕ) (s
         is_own = leaving.is_own;
         left = leaving.left;
         becomes = ap (λ b. cond b (own place) (state.own place)) there.0 ∙ ap (λ (o : CellId → Own). o place) leaving.own_is
-        ∙ ap (λ b. cond b (of_planet leaving.left) (own_seen sight place)) (cell-itself place);
+            ∙ ap (λ b. cond b (of_planet leaving.left) (own_seen sight place)) (cell-itself place);
         left_owner = leaving.left_owner ∙ leaving.is_own;
         units = leaving.left_units;
         elsewhere = λ x apart. ap (λ (o : CellId → Own). owns_after some o state x) leaving.own_is ∙ left-elsewhere fleet.origin leaving.left x apart;

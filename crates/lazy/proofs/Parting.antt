@@ -165,6 +165,7 @@ module _ (setting : Setting) (player : Player) (req : Request) (moment : ℕ) (s
         let named : names seen player (Recall number) x ≡ true = ap (belongs_out x) there ∙ and-from fleet.outbound (belongs x fleet) out has in
         and-from (is_listed setting.cells (Account player) && is_listed setting.cells x) (same_cell (Account player) x || names seen player req x) listed
         (either-second (same_cell (Account player) x) (names seen player req x) (ap (λ r. names seen player r x) is ∙ named))
+
     called-about : IsAbout sight player req fleet
     called-about =
         let flying = fine.flying fleet called-flies in
@@ -184,8 +185,15 @@ module _ (setting : Setting) (player : Player) (req : Request) (moment : ℕ) (s
 
   leaving-about : (own : CellId → Own) (fleet : Fleet) → IsLeaving sight player req own fleet → IsAbout sight player req fleet
   leaving-about own fleet leaving = record {
-    from = leaving.from; leaves = leaving.leaves; is_own = leaving.is_own; to = leaving.to; reaches = leaving.reaches;
-    is_theirs = leaving.is_theirs; owner = leaving.owner; from_is = leaving.from_is; to_is = leaving.to_is;
+    from = leaving.from;
+    leaves = leaving.leaves;
+    is_own = leaving.is_own;
+    to = leaving.to;
+    reaches = leaving.reaches;
+    is_theirs = leaving.is_theirs;
+    owner = leaving.owner;
+    from_is = leaving.from_is;
+    to_is = leaving.to_is;
   }
 
   -- a request that is granted is that of a player, and planets stand at the places that it is about
