@@ -15,7 +15,6 @@ pub mod Counting
 pub mod Showing
 pub mod Counted
 pub mod Answering
-pub mod Ending
 pub mod Samples
 pub mod Turns
 pub mod Units
