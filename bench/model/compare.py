@@ -2,9 +2,11 @@
 
     compare.py FIRST_SEED LAST_SEED LINES PROGRAM
     compare.py FIRST_SEED LAST_SEED LINES plainly
+    compare.py FIRST_SEED LAST_SEED LINES cases FOLDER
 
 Each script is compared as it is drawn, and with a program again with spoiled lines. With `plainly` only scripts of at most
-100000 seconds are taken. Tells the first difference of each script, and at the end how often each answer came.
+100000 seconds are taken. With `cases` nothing is compared: the same scripts and what the model says of them are written into a
+folder, for `rt try --cases`. Tells the first difference of each script, and at the end how often each answer came.
 """
 
 import random
@@ -12,6 +14,7 @@ import subprocess
 import sys
 from collections import Counter
 from itertools import zip_longest
+from pathlib import Path
 
 from generate import draw_script
 from model import output_of
@@ -27,7 +30,7 @@ def answer_name(request, answer):
         return f"{form} no {first[3]}"
     if first[0] == "bad":
         return f"{form} {answer[0]}"
-    order = answer[1].split(" ")[0] if form in ("build", "research", "yard") else "ok"
+    order = answer[1].split(" ")[0] if form in ("build", "research", "yard", "send", "recall") else "ok"
     return f"{form} {order}"
 
 
@@ -66,9 +69,24 @@ def program_output(program, data):
     return with_status(ended.stdout.decode().splitlines(), ended.returncode)
 
 
-def differences(program, lines, rng):
+def write_case(name, data, model):
+    """A case for `rt try --cases`, which does not compare the status."""
+    folder = Path(sys.argv[5])
+    folder.mkdir(parents=True, exist_ok=True)
+    (folder / name).write_bytes(data)
+    (folder / f"{name}.stdout").write_text("".join(line + "\n" for line in model[:-1]))
+
+
+def differences(program, lines, seed):
+    rng = random.Random(seed)
     data = "".join(line + "\n" for line in lines).encode()
     model = with_status(*output_of(data, True, False))
+    if program == "cases":
+        write_case(f"seed{seed}", data, model)
+        for index in range(3):
+            data = "\n".join(spoiled(lines, rng)).encode()
+            write_case(f"seed{seed}spoiled{index}", data, with_status(*output_of(data, True, False)))
+        return
     if program == "plainly":
         yield first_difference(model, with_status(*output_of(data, True, True)))
         return
@@ -86,7 +104,7 @@ def main():
         if sys.argv[4] == "plainly" and script.now() > MOST_PLAIN_SECONDS:
             continue
         scripts += 1
-        found = [told for told in differences(sys.argv[4], script.lines, random.Random(seed)) if told]
+        found = [told for told in differences(sys.argv[4], script.lines, seed) if told]
         differing += len(found)
         for told in found:
             print(f"seed {seed}: {told}", flush=True)

@@ -1,4 +1,4 @@
-"""Draws an input for `model.py dump`: a founding text and a script of all six forms.
+"""Draws an input for `model.py dump`: a founding text and a script of all ten forms.
 
     generate.py SEED LINES > INPUT
 
@@ -7,22 +7,24 @@ The script is made of scenes of a few lines each. Most readings lie close to the
 
 import random
 import sys
+from collections import Counter
 
 from model import Run, found
-from tables import BUILDINGS, DOMES, KINDS, TECHNOLOGIES, UNITS, WORKS
-from universe import MOST_UNITS, QUEUE_LENGTH, text
+from fleets import BACK, OUT, distance, flight_fuel, flight_seconds, room, ships_text
+from tables import BUILDINGS, DOMES, KINDS, SHIPS, TECHNOLOGIES, UNITS, WORKS
+from universe import MOST_STOCK, MOST_UNITS, QUEUE_LENGTH, text
 
 PLAYERS = [1, 2, 300]
 STRANGER = 4711
 EMPTY_PLACE = "4:4:4"
-PLACES = ["1:1:1", "1:2:15", "1:10:1", "1:10:2", "1:499:15", "2:1:1", "3:7:9", "9:1:1", "9:499:15"]
+PLACES = ["1:2:15", "1:10:1", "1:10:2", "1:10:3", "1:10:7", "1:10:15", "1:499:15", "2:1:1", "9:499:15"]
 RICH, MIDDLE, POOR, NEW = "rich", "middle", "poor", "new"
 HIGHEST_LEVELS = {RICH: 14, MIDDLE: 8, POOR: 3, NEW: 1}
 STOCKS = {RICH: (10**5, 10**8), MIDDLE: (3000, 60000), POOR: (0, 900)}
 
 
 def founding_lines(rng):
-    yield f"universe {rng.randrange(2**64)} {rng.choice([1, 2, 5, 100])} 1000 {rng.choice([0, 0, 1000])}"
+    yield f"universe {rng.randrange(2**64)} {rng.choice([1, 5, 100, 100])} 1000 {rng.choice([0, 0, 1000])}"
     for player in PLAYERS:
         yield f"player {player}"
         yield from technology_lines(rng, player)
@@ -39,8 +41,9 @@ def founding_lines(rng):
 def technology_lines(rng, player):
     """Player 2 begins without technologies, and with many units."""
     if player != 2:
-        for word in sorted({"shielding", *rng.sample(TECHNOLOGIES[:-1], rng.randint(3, 10))}):
+        for word in sorted({"shielding", *rng.sample(TECHNOLOGIES[:-1], rng.randint(3, 10))} - {"computer"}):
             yield f"tech {player} {word} {rng.randint(1, 12)}"
+        yield f"tech {player} computer {rng.choice([2, 3, 5])}"
 
 
 def graviton_planet_lines(place):
@@ -68,12 +71,14 @@ def planet_lines(rng, place, owner, free_fields):
     levels = {word: rng.randint(1, min(HIGHEST_LEVELS[wealth], KINDS[word].cap)) for word in words}
     fields = sum(levels.values()) + free_fields
     yield f"planet {place} {owner} {rng.choice([-130, -129, -20, 0, 40, 260])} {fields}"
-    if wealth in STOCKS:
+    if wealth == RICH and rng.random() < 0.3:
+        yield f"stock {place} {MOST_STOCK - rng.choice([0, 3, 900])} {MOST_STOCK} 5000000"
+    elif wealth in STOCKS:
         yield "stock " + place + "".join(f" {rng.randint(*STOCKS[wealth])}" for _ in range(3))
     for word, level in levels.items():
         yield f"level {place} {word} {level}"
     if wealth != NEW:
-        for unit in rng.sample(UNITS, rng.randint(1, 4)):
+        for unit in {*rng.sample(UNITS, rng.randint(1, 4)), "probe", rng.choice(["smallcargo", "largecargo"])}:
             yield f"units {place} {unit} {1 if unit in DOMES else rng.choice([1, 7, 30, 700])}"
 
 
@@ -182,7 +187,7 @@ def fill_fields(script):
 def build_often(script):
     """More items than a queue takes."""
     player, place = script.player_and_place()
-    for _ in range(script.rng.randint(3, 6)):
+    for _ in range(script.rng.randint(4, 7)):
         script.say(player, f"build {place} {script.rng.choice(BUILDINGS[:8])}", script.now())
 
 
@@ -238,8 +243,9 @@ def order_domes(script):
 def yard_often(script):
     """More batches than a yard takes."""
     for planet, units in rich_planets(script, UNITS):
-        for unit in script.rng.choices(units, k=script.rng.randint(3, 6)):
-            count = script.rng.choice([1, 1, 2, 5])
+        cheap = [unit for unit, count in affordable(script, planet) if count > 10 and unit not in DOMES]
+        for unit in script.rng.choices(cheap or units, k=script.rng.randint(4, 7)):
+            count = script.rng.choice([1, 1, 1, 2])
             script.say(planet.owner, f"yard {text(planet.place)} {unit} {count}", script.now())
         return
 
@@ -288,7 +294,7 @@ def graviton(script):
     for tenths in (9, 10, 10):
         script.say(2, f"set {place} satellite {tenths}", script.now())
         script.say(2, f"research {place} graviton", script.now())
-    script.say(2, f"set {place} satellite {rng.choice([9, 10])}", script.now())
+    script.say(2, f"set {place} satellite {rng.choice([9, 9, 10])}", script.now())
     script.say(2, "account", script.now())
 
 
@@ -316,33 +322,161 @@ def ceiling(script):
             return
 
 
+# Scenes of fleets.
+
+
+def flyers(script, player=None):
+    """A planet with ships, mostly one that has deuterium, if there is one."""
+    planets = [it for it in script.run.universe.planets.values() if any(it.units[ship] for ship in SHIPS)]
+    planets = [it for it in planets if player in (None, it.owner)]
+    rich = [it for it in planets if it.stock()[2] > 3]
+    return script.rng.choice(rich if rich and script.rng.random() < 0.9 else planets) if planets else None
+
+
+def target_of(script, origin):
+    """Mostly a planet of the same system, if there is one."""
+    places = [place for place in script.run.universe.planets if place != origin.place]
+    near = [place for place in places if place[:2] == origin.place[:2]]
+    return script.rng.choice(near if near and script.rng.random() < 0.85 else places)
+
+
+def some_ships(script, origin):
+    kinds = [ship for ship in SHIPS if origin.units[ship] > 0]
+    some = script.rng.sample(kinds, script.rng.choice([1, 1, 1, min(2, len(kinds))]))
+    return Counter({ship: script.rng.choice([1, 1, 2, origin.units[ship]]) if origin.units[ship] > 1 else 1 for ship in some})
+
+
+def some_cargo(script, origin, ships, fuel):
+    """Mostly a cargo that fits and can be paid, at times one of just as much as fits, or more."""
+    rng, free = script.rng, max(0, room(ships) - fuel)
+    draw = rng.random()
+    if draw < 0.06:
+        return [free + 1 - free // 2, free // 2, 0]
+    if draw < 0.12:
+        return [0, free, 0]
+    stock = origin.stock()
+    shares = [min(part // 3, free // rng.choice([3, 4, 50])) for part in (stock[0], stock[1], max(0, stock[2] - fuel))]
+    return [rng.choice([0, share, share]) for share in shares]
+
+
+def errand(script, origin, target, ships, setting):
+    levels = script.run.universe.accounts[origin.owner].levels
+    way = distance(origin.place, target)
+    seconds = flight_seconds(way, levels, ships, setting, script.run.universe.speed)
+    return seconds, flight_fuel(way, levels, ships, setting)
+
+
+def send_from(script, origin, target, reading=None):
+    rng = script.rng
+    ships, setting = some_ships(script, origin), rng.choice([10, 10, 10, 5, 1])
+    seconds, fuel = errand(script, origin, target, ships, setting)
+    own = script.run.universe.planets[target].owner == origin.owner
+    mission = rng.choice(["transport", "deploy"] if own or rng.random() < 0.1 else ["transport"])
+    cargo = some_cargo(script, origin, ships, fuel)
+    if reading == "meeting":
+        ends = [event[0] for event in script.run.universe.events() if event[0] - seconds >= script.now()]
+        reading = rng.choice(ends) - seconds if ends else None
+    words = ["send", text(origin.place), text(target), mission, setting, ships_text(ships), *cargo]
+    script.say(origin.owner, " ".join(map(str, words)), reading)
+
+
+def send(script):
+    origin = flyers(script)
+    if origin:
+        send_from(script, origin, target_of(script, origin))
+
+
+def send_to_meet(script):
+    """A fleet arrives in the second of another event."""
+    origin = flyers(script)
+    if origin:
+        send_from(script, origin, target_of(script, origin), "meeting")
+
+
+def send_often(script):
+    """More fleets than a player may have; some land in one second."""
+    origin = flyers(script)
+    target = origin and target_of(script, origin)
+    for _ in range(script.rng.randint(2, 5)):
+        if origin and any(origin.units[ship] > 0 for ship in SHIPS):
+            send_from(script, origin, target, script.now())
+
+
+def send_wrongly(script):
+    """One that is refused for nearly each reason."""
+    rng, origin = script.rng, flyers(script)
+    if not origin:
+        return
+    place, near = text(origin.place), text(target_of(script, origin))
+    ship = next(ship for ship in SHIPS if origin.units[ship] > 0)
+    foreign = [text(it.place) for it in script.run.universe.planets.values() if it.owner != origin.owner]
+    tails = [
+        f"{place} {near} transport 10 {ship}={origin.units[ship] + 1} 0 0 0",
+        f"{place} {EMPTY_PLACE} transport 10 {ship}=1 0 0 0",
+        f"{place} {place} deploy 10 {ship}=1 0 0 0",
+        f"{place} {rng.choice(foreign)} deploy 10 {ship}=1 0 0 0",
+        f"{place} {near} transport 10 {ship}=1 {MOST_STOCK} 0 0",
+        f"{place} {near} transport 10 {ship}=1 0 0 {max(0, room({ship: 1}) - 900)}",
+        f"{EMPTY_PLACE} {near} transport 10 {ship}=1 0 0 0",
+        f"{rng.choice(foreign)} {near} transport 10 {ship}=1 0 0 0",
+    ]
+    for tail in rng.sample(tails, 4):
+        script.say(rng.choice([origin.owner] * 9 + [STRANGER]), f"send {tail}", script.now())
+
+
+def recall(script):
+    """Of a fleet that flies out, mostly; of one that flies back, of somebody else's or of none."""
+    rng, fleets = script.rng, script.run.universe.fleets
+    out = [fleet for fleet in fleets if fleet.stage == OUT]
+    back = [fleet for fleet in fleets if fleet.stage == BACK]
+    some = rng.choice([out, out, out, back, fleets])
+    if not some or rng.random() < 0.1:
+        return script.say(rng.choice(PLAYERS + [STRANGER]), f"recall {rng.choice([1, script.run.last_number, 2**40 - 1])}")
+    fleet = rng.choice(some)
+    player = fleet.owner if rng.random() < 0.9 else rng.choice(PLAYERS)
+    reading = rng.choice([None, script.now(), fleet.second, fleet.second - 1])
+    script.say(player, f"recall {fleet.number}", reading)
+
+
+def ask_fleets(script):
+    rng = script.rng
+    system = ":".join(rng.choice(PLACES).split(":")[:2])
+    script.say(rng.choice(PLAYERS * 6 + [STRANGER]), rng.choice(["fleets", "fleets", f"system {system}", "system 4:4"]))
+
+
 def set_work(script):
     player, place = script.player_and_place()
     script.say(player, f"set {place} {script.rng.choice(WORKS)} {script.rng.randint(0, 10)}")
 
 
 def ask_wrongly(script):
-    """A stranger asks, and a player for a place without a planet and for somebody else's planet."""
-    rng = script.rng
-    player, stranger_to_it = rng.sample(PLAYERS, 2)
-    words = {"planet": "", "build": " lab", "research": " energy", "yard": " launcher 1", "set": " satellite 5"}
-    form, word = rng.choice(list(words.items()))
-    script.say(STRANGER, rng.choice(["account", *[f"{form} {EMPTY_PLACE}{word}"] * 3]))
-    script.say(player, f"{form} {EMPTY_PLACE}{word}")
-    script.say(stranger_to_it, f"{form} {rng.choice(script.places_of(player))}{word}")
+    """In each form a stranger asks, and a player for a place without a planet and for somebody else's planet."""
+    player, stranger_to_it = script.rng.sample(PLAYERS, 2)
+    for request in ("account", "fleets", "system 1:10", "recall 1"):
+        script.say(STRANGER, request)
+    send = " 1:10:1 transport 10 probe=1 0 0 0"
+    words = {"planet": "", "build": " lab", "research": " energy", "yard": " launcher 1", "set": " satellite 5", "send": send}
+    for form, word in words.items():
+        script.say(STRANGER, f"{form} {EMPTY_PLACE}{word}")
+        script.say(player, f"{form} {EMPTY_PLACE}{word}")
+        script.say(stranger_to_it, f"{form} {script.rng.choice(script.places_of(player))}{word}")
 
 
 def bad_line(script):
     lines = [
         "",
-        "@5 1 fleets",
+        "@5 1 fleets 1",
+        "@5 1 join 1 1:10:1 1:10:2 10 probe=1 0 0 0",
+        "@5 1 send 1:10:1 1:10:2 attack 10 probe=1 0 0 0",
+        "@5 1 send 1:10:1 1:10:2 transport 10 probe=1,smallcargo=1 0 0 0",
+        "@5 1 recall 0",
         "@5 1 planet 1:1:16",
         f"@{script.now()} 1 planet 1:1:1 ",
         "@5 1 research 1:1:1 lab",
         "@5 1 yard 1:1:1 launcher 0",
         "@5 1 account 1",
         "@1099511627776 1 account",
-        *["@5 1 planet " + "1" * 400] * 3,
+        *["@5 1 planet " + "1" * 400] * 5,
     ]
     script.write(script.rng.choice(lines), "")
 
@@ -363,21 +497,26 @@ def last_touches(script):
 SCENES = {
     ask: 10,
     build: 5,
-    build_too_much: 1.2,
+    build_too_much: 2.5,
     fill_fields: 1,
     build_often: 2,
     research: 3,
     research_often: 2,
     order_units: 5,
     order_domes: 1,
-    yard_often: 2,
+    yard_often: 3,
     improve_yard: 1,
     spend_all: 3,
-    graviton: 1,
+    graviton: 1.5,
     ceiling: 1,
     set_work: 3,
-    ask_wrongly: 3,
-    bad_line: 1,
+    send: 9,
+    send_to_meet: 5,
+    send_often: 4,
+    send_wrongly: 2.5,
+    recall: 5,
+    ask_fleets: 5,
+    bad_line: 2,
 }
 
 
@@ -385,6 +524,7 @@ def draw_script(seed, lines):
     script = Script(random.Random(seed))
     most = len(script.lines) + lines - 20
     beginning(script)
+    ask_wrongly(script)
     while len(script.lines) < most:
         [scene] = script.rng.choices(list(SCENES), SCENES.values())
         scene(script)

@@ -8,13 +8,14 @@ With `plainly` every second passes by itself. Without it the seconds in which no
 import re
 import sys
 import time
+from collections import Counter
 from dataclasses import dataclass, field
 
-from tables import BUILDINGS, DOMES, KINDS, TECHNOLOGIES, UNITS, WORKS
-from universe import GRAINS, MOST_UNITS, Account, Planet, Refused, Universe, line
+from fleets import OUT
+from tables import BUILDINGS, DOMES, KINDS, SHIPS, TECHNOLOGIES, UNITS, WORKS
+from universe import GRAINS, MOST_STOCK, MOST_UNITS, Account, Planet, Refused, Universe, line
 
 LAST_SECOND = 2**40 - 1
-MOST_STOCK = 4 * 10**12
 LONGEST_LINE = 400
 BAD_FOUNDING = 11
 
@@ -58,7 +59,27 @@ def from_to(least, most):
     return lambda word: number(word, least, most)
 
 
+def system(word):
+    parts = word.split(":")
+    if len(parts) != 2:
+        raise BadLine
+    return tuple(number(part, 1, most) for part, most in zip(parts, (9, 499)))
+
+
+def some_ships(word):
+    """UNIT=COUNT joined by commas, the kinds rising by number."""
+    ships, last = Counter(), -1
+    for part in word.split(","):
+        ship, _, count = part.partition("=")
+        if ship not in SHIPS or SHIPS.index(ship) <= last:
+            raise BadLine
+        last = SHIPS.index(ship)
+        ships[ship] = number(count, 1, MOST_UNITS)
+    return ships
+
+
 player_number = from_to(1, 65535)
+amount = from_to(0, MOST_STOCK)
 FORMS = {
     "planet": [coordinate],
     "account": [],
@@ -66,6 +87,10 @@ FORMS = {
     "research": [coordinate, one_of(TECHNOLOGIES)],
     "yard": [coordinate, one_of(UNITS), from_to(1, MOST_UNITS)],
     "set": [coordinate, one_of(WORKS), from_to(0, 10)],
+    "fleets": [],
+    "system": [system],
+    "send": [coordinate, coordinate, one_of(["transport", "deploy"]), from_to(1, 10), some_ships, amount, amount, amount],
+    "recall": [from_to(1, LAST_SECOND)],
 }
 
 
@@ -186,11 +211,30 @@ def found(lines):
 
 @dataclass
 class Stand:
-    """How a cell stood at its last touch: the second, its lines, and the research of an account."""
+    """How a cell stood at its last touch: the second, its lines, its fleets, and the research of an account."""
 
     second: int
     lines: list
+    fleets: list
     research: list = field(default_factory=list)
+
+
+@dataclass
+class Link:
+    """A fleet that belongs to a cell: its number, who owns it, whether it flies out, when it lands, and all its cells."""
+
+    number: int
+    owner: int
+    outbound: bool
+    second: int
+    cells: set
+
+
+def link_of(fleet):
+    cells = {("planet", fleet.origin), ("account", fleet.owner)}
+    if fleet.stage == OUT:
+        cells |= {("planet", fleet.target), ("account", fleet.target_owner)}
+    return Link(fleet.number, fleet.owner, fleet.stage == OUT, fleet.second, cells)
 
 
 class Run:
@@ -215,8 +259,7 @@ class Run:
         return self.answer_request(max(reading, self.universe.moment), player, form, words)
 
     def answer_request(self, moment, player, form, words):
-        place = words[0] if words else None
-        cells = self.touched_cells(moment, player, place)
+        cells = self.touched_cells(moment, player, form, words)
         self.universe.pass_to(moment, self.plainly)
         self.last_number += 1
         try:
@@ -234,39 +277,62 @@ class Run:
             return universe.ask_account(player)
         if form == "set":
             return universe.set_work(player, *words)
+        asks = {"fleets": universe.ask_fleets, "system": universe.ask_system, "recall": universe.recall}
+        if form in asks:
+            return asks[form](player, *words)
+        if form == "send":
+            return universe.send(self.last_number, player, *words)
         orders = {"build": universe.order_building, "research": universe.order_research, "yard": universe.order_units}
         return orders[form](self.last_number, player, *words)
 
-    def touched_cells(self, moment, player, place):
-        """What a request touches. The research is that at the account's last touch."""
-        universe = self.universe
-        if player not in universe.accounts:
-            return []
-        players, places = {player}, set()
-        if place in universe.planets:
-            players.add(universe.planets[place].owner)
-            places.add(place)
-        for account in players:
-            places.update(self.research_places(account, moment))
-        return [("account", account) for account in players] + [("planet", planet) for planet in places]
+    def touched_cells(self, moment, player, form, words):
+        """What a request touches: what it names, and all without which this can't be brought to the moment."""
+        if player not in self.universe.accounts:
+            return set()
+        touched, new = set(), {("account", player), *self.named_cells(player, form, words)}
+        while new:
+            touched |= new
+            new = {cell for known in new for cell in self.needed_cells(known, moment)} - touched
+        return touched
 
-    def research_places(self, player, moment):
-        """The planets of the research that waits, if the research before it is done by a moment."""
-        research = self.stands["account", player].research
-        if research and research[0][0] <= moment:
-            return [place for _, place in research[1:]]
-        return []
+    def named_cells(self, player, form, words):
+        """The planets at the places that it names, those of a system, or the cells of a fleet that flies out."""
+        planets = self.universe.planets
+        if form == "system":
+            return [("planet", place) for place in planets if place[:2] == words[0]]
+        if form == "recall":
+            fleets = self.stands["account", player].fleets
+            flown = [link for link in fleets if link.number == words[0] and link.owner == player and link.outbound]
+            return [cell for link in flown for cell in link.cells]
+        return [("planet", place) for place in words[:2] if isinstance(place, tuple) and place in planets]
+
+    def needed_cells(self, cell, moment):
+        """The owner of a planet, the planets of research that waits, and the cells of fleets that land, by the last touch."""
+        kind, name = cell
+        stand = self.stands[cell]
+        if kind == "planet":
+            yield "account", self.universe.planets[name].owner
+        if stand.research and stand.research[0][0] <= moment:
+            yield from (("planet", place) for _, place in stand.research[1:])
+        for link in stand.fleets:
+            if link.second <= moment:
+                yield from link.cells
 
     def touch(self, cells):
-        universe = self.universe
         for cell in cells:
-            kind, name = cell
-            if kind == "planet":
-                self.stands[cell] = Stand(universe.moment, universe.planet_lines(universe.planets[name]))
-                continue
-            account = universe.accounts[name]
-            research = [(item.second, item.place) for item in account.research]
-            self.stands[cell] = Stand(universe.moment, universe.account_lines(account), research)
+            self.stands[cell] = self.stand_of(cell)
+
+    def stand_of(self, cell):
+        universe, (kind, name) = self.universe, cell
+        fleets = [link for link in map(link_of, universe.fleets) if cell in link.cells]
+        others = [link for link in fleets if kind == "planet" or link.owner != name]
+        links = [line("link", link.number, link.second) for link in others]
+        if kind == "planet":
+            return Stand(universe.moment, universe.planet_lines(universe.planets[name]) + links, fleets)
+        account = universe.accounts[name]
+        research = [(item.second, item.place) for item in account.research]
+        lines = universe.account_lines(account) + universe.fleet_lines(name) + links
+        return Stand(universe.moment, lines, fleets, research)
 
     def dump(self):
         for cell, stand in sorted(self.stands.items()):

@@ -5,6 +5,7 @@ from pathlib import Path
 
 RULES = Path(__file__).resolve().parents[2] / "docs" / "RULES.md"
 WORD = re.compile(r"`([a-z]+)`")
+DRIVES = ["combustion", "impulse", "hyperspace"]
 WORD_AND_LEVEL = re.compile(r"`([a-z]+)` ([0-9]+)")
 
 
@@ -17,6 +18,8 @@ class Kind:
         self.first_cost = first_cost
         self.growth = growth
         self.cap = cap
+        self.cargo = 0
+        self.engines = []
         self.needed_building = None
         self.needed_technologies = []
 
@@ -47,7 +50,9 @@ def kind_of(row):
         return Kind(number, word, first_cost, growth_of(row[5]), int(row[6]))
     if number <= 34:
         return Kind(number, word, first_cost, (2, 1), int(row[5]))
-    return Kind(number, word, first_cost, (1, 1), None)
+    unit = Kind(number, word, first_cost, (1, 1), None)
+    unit.cargo = int(row[7]) if len(row) == 8 else 0
+    return unit
 
 
 def is_kind(row):
@@ -62,6 +67,15 @@ def is_need(row):
     return len(row) == 3 and WORD.fullmatch(row[0]) and (row[1] == "—" or WORD_AND_LEVEL.fullmatch(row[1]))
 
 
+def is_engine(row):
+    return len(row) == 4 and row[0].startswith("`") and row[1] in DRIVES
+
+
+def read_engine(row, kinds):
+    """An engine: its drive, its speed and its fuel. The second one of a kind is that from a level of impulse technology on."""
+    kinds[WORD.match(row[0])[1]].engines.append((row[1], *numbers(row[2:])))
+
+
 def read_needs(row, kinds):
     kind = kinds[WORD.fullmatch(row[0])[1]]
     if building := WORD_AND_LEVEL.fullmatch(row[1]):
@@ -74,6 +88,8 @@ def read_tables():
     kinds = {kind.word: kind for kind in map(kind_of, filter(is_kind, rows))}
     for row in filter(is_need, rows):
         read_needs(row, kinds)
+    for row in filter(is_engine, rows):
+        read_engine(row, kinds)
     limits = dict(numbers(row) for row in rows if is_limit(row))
     return kinds, limits
 
@@ -82,6 +98,7 @@ KINDS, LIMITS = read_tables()
 BUILDINGS = [word for word, kind in KINDS.items() if kind.number <= 11]
 TECHNOLOGIES = [word for word, kind in KINDS.items() if 21 <= kind.number <= 34]
 UNITS = [word for word, kind in KINDS.items() if kind.number >= 41]
+SHIPS = [word for word, kind in KINDS.items() if kind.engines]
 WORKS = ["metalmine", "crystalmine", "deuteriumsynth", "solarplant", "satellite"]
 STORES = ["metalstore", "crystalstore", "deuteriumtank"]
 DOMES = ["smalldome", "largedome"]

@@ -1,13 +1,15 @@
-"""The universe of docs/RULES.md: planets and accounts that all stand at one second."""
+"""The universe of docs/RULES.md: planets, accounts and fleets that all stand at one second."""
 
 from collections import Counter
 from dataclasses import dataclass, field
 
+from fleets import BACK, OUT, Fleet, distance, flight_fuel, flight_seconds, place_text, room
 from tables import BUILDINGS, DOMES, KINDS, LIMITS, STORES, TECHNOLOGIES, UNITS, WORKS
 
 GRAINS = 3600
 QUEUE_LENGTH = 5
 MOST_UNITS = 100000
+MOST_STOCK = 4 * 10**12
 GRAVITON_ENERGY = 300000
 
 
@@ -113,6 +115,10 @@ class Planet:
     def pay(self, price):
         self.grains = [grains - part * GRAINS for grains, part in zip(self.grains, price)]
 
+    def take(self, cargo):
+        """The cargo of a fleet comes into the stocks. What goes above the cap is lost."""
+        self.grains = [min(grains + part * GRAINS, MOST_STOCK * GRAINS) for grains, part in zip(self.grains, cargo)]
+
     def ordered(self, unit):
         return sum(batch.left for batch in self.yard if batch.unit == unit)
 
@@ -133,6 +139,7 @@ class Universe:
         self.moment = moment
         self.accounts = {}
         self.planets = {}
+        self.fleets = []
         self.seen = Counter()
 
     # What a thing costs and how long it takes.
@@ -181,12 +188,23 @@ class Universe:
         for account in self.accounts.values():
             if account.research:
                 yield account.research[0].second, account.research[0].number, 2, account
+        for fleet in self.fleets:
+            yield fleet.second, fleet.number, 4 if fleet.stage == OUT else 6, fleet
 
     def events_happen(self):
         due = sorted((event for event in self.events() if event[0] == self.moment), key=lambda event: event[:3])
         self.seen["second of several events"] += len(due) > 1
+        steps = {1: self.building_done, 2: self.research_done, 3: self.unit_done, 4: self.arrive, 6: self.come_back}
         for _, _, step, owner in due:
-            {1: self.building_done, 2: self.research_done, 3: self.unit_done}[step](owner)
+            steps[step](owner)
+        self.note(due)
+
+    def note(self, due):
+        """What a comparison is to have met."""
+        kinds = [step for _, _, step, _ in due]
+        landings = [fleet.landing() for _, _, step, fleet in due if step >= 4]
+        self.seen["landing and another event in one second"] += bool(landings) and len(due) > 1
+        self.seen["landing and item in one second"] += bool(landings) and min(kinds) < 4
 
     def building_done(self, planet):
         item = planet.buildings.pop(0)
@@ -246,6 +264,28 @@ class Universe:
             batch = planet.yard[0]
             batch.each = self.unit_time(planet, batch.unit)
             batch.second = self.moment + batch.each
+
+    def arrive(self, fleet):
+        """A fleet arrives at its target: a transport turns back, empty, and a deployed fleet stays."""
+        target = self.planets[fleet.target]
+        full = MOST_STOCK * GRAINS
+        self.seen["stock full"] += any(part * GRAINS + grains > full for part, grains in zip(fleet.cargo, target.grains))
+        target.take(fleet.cargo)
+        self.seen[fleet.mission + " arrives"] += 1
+        if fleet.mission == "deploy":
+            return self.stay(fleet, target)
+        fleet.cargo = [0, 0, 0]
+        fleet.turn_back(fleet.second + (fleet.second - fleet.launch))
+
+    def come_back(self, fleet):
+        self.seen["back with cargo" if any(fleet.cargo) else "back"] += 1
+        origin = self.planets[fleet.origin]
+        origin.take(fleet.cargo)
+        self.stay(fleet, origin)
+
+    def stay(self, fleet, planet):
+        planet.units.update(fleet.ships)
+        self.fleets.remove(fleet)
 
     # Requests. Each gives the lines of its reply or is refused.
 
@@ -320,13 +360,63 @@ class Universe:
         self.start_batch(planet)
         return [f"starts {count} {queue[0].second}"]
 
+    def known(self, player):
+        refuse_first([(1, player not in self.accounts)])
+
+    def ask_fleets(self, player):
+        self.known(player)
+        return self.fleet_lines(player)
+
+    def ask_system(self, player, system):
+        self.known(player)
+        planets = [planet for place, planet in sorted(self.planets.items()) if place[:2] == system]
+        return [line("at", text(planet.place), planet.owner, 0, 0) for planet in planets]
+
+    def send(self, number, player, origin, target, mission, setting, ships, *cargo):
+        planet, there = self.own_planet(player, origin), self.planets.get(target)
+        levels, way = self.accounts[player].levels, distance(origin, target)
+        fuel = flight_fuel(way, levels, ships, setting)
+        price = [cargo[0], cargo[1], cargo[2] + fuel]
+        refuse_first([
+            (8, any(planet.units[ship] < count for ship, count in ships.items())),
+            (9, there is None or target == origin or (mission == "deploy" and there.owner != player)),
+            (10, len(self.fleets_of(player)) >= self.slots_of(player)),
+            (11, sum(price) > room(ships)),
+            (12, not planet.can_pay(price)),
+        ])
+        planet.pay(price)
+        planet.units.subtract(ships)
+        second = self.moment + flight_seconds(way, levels, ships, setting, self.speed)
+        fleet = Fleet(number, player, mission, origin, target, there.owner, self.moment, second, list(cargo), ships)
+        self.fleets.append(fleet)
+        return [line("arrives", second, "fuel", fuel)]
+
+    def recall(self, player, number):
+        self.known(player)
+        fleet = next((fleet for fleet in self.fleets_of(player) if fleet.number == number), None)
+        refuse_first([(13, fleet is None)])
+        refuse_first([(14, fleet.stage == BACK)])
+        fleet.turn_back(self.moment + max(1, self.moment - fleet.launch))
+        return [line("back", fleet.second)]
+
     # The lines of replies.
 
     def planets_of(self, player):
         return [planet for _, planet in sorted(self.planets.items()) if planet.owner == player]
 
+    def fleets_of(self, player):
+        """By number, since each new fleet has the highest."""
+        return [fleet for fleet in self.fleets if fleet.owner == player]
+
+    def slots_of(self, player):
+        return 1 + self.accounts[player].levels["computer"]
+
     def units_of(self, player):
-        return sum(planet.all_units() for planet in self.planets_of(player))
+        on_planets = sum(planet.all_units() for planet in self.planets_of(player))
+        return on_planets + sum(sum(fleet.ships.values()) for fleet in self.fleets_of(player))
+
+    def fleet_lines(self, player):
+        return [line("fleet", *fleet.line_words()) for fleet in self.fleets_of(player)]
 
     def planet_lines(self, planet):
         given_and_needed = [planet.energy_given(), planet.energy_needed()]
@@ -347,11 +437,11 @@ class Universe:
         ]
 
     def account_lines(self, account):
-        first, later = account.research[:1], account.research[1:]
+        first, later, player = account.research[:1], account.research[1:], account.player
         return [
-            line("account", account.player, self.units_of(account.player), 0, 1 + account.levels["computer"]),
+            line("account", player, self.units_of(player), len(self.fleets_of(player)), self.slots_of(player)),
             *(line("tech", word, account.levels[word]) for word in TECHNOLOGIES if account.levels[word]),
-            *(line("planet", text(planet.place)) for planet in self.planets_of(account.player)),
+            *(line("planet", text(planet.place)) for planet in self.planets_of(player)),
             *(line("research", item.number, item.kind, item.level, item.second, text(item.place)) for item in first),
             *(line("waiting", item.number, item.kind, text(item.place)) for item in later),
         ]
@@ -361,5 +451,4 @@ def line(*words):
     return " ".join(map(str, words))
 
 
-def text(place):
-    return ":".join(map(str, place))
+text = place_text

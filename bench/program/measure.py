@@ -54,6 +54,37 @@ def batch(unit, count):
     return founding(1, lines) + [f"@0 1 yard 1:1:1 {unit} {count}", f"@{LATE} 1 planet 1:1:1"]
 
 
+def fleets(players):
+    """Ships with fuel on the first planet of each player but the first, one more of the second, who has a computer."""
+    senders = range(2, players + 1)
+    lines = ["tech 2 computer 1"]
+    lines += [f"stock {place(2 * number - 2)} 500 500 500" for number in senders]
+    return lines + [f"units {place(2 * number - 2)} smallcargo {2 if number == 2 else 1}" for number in senders]
+
+
+def sends(players):
+    """A fleet of each player but the first, from the first planet to the second, and a second one of the second player."""
+    senders = [2] + list(range(2, players + 1))
+    return [f"@0 {number} send {place(2 * number - 2)} {place(2 * number - 1)} transport 1 smallcargo=1 0 0 0" for number in senders]
+
+
+def questions_in_flight(count, player):
+    """Questions at the first planet of a player while the fleets fly, which takes them 49631 seconds."""
+    at = place(2 * player - 2)
+    return [f"@{1 + index * 40000 // count} {player} planet {at}" for index in range(count)]
+
+
+def in_flight(questions, flown):
+    """A universe whose players have ships, which fly or not, and questions."""
+    return founding(10000, fleets(10000)) + (sends(10000) if flown else []) + questions
+
+
+def all_home():
+    """10000 fleets fly, and long after they are home each second planet is asked for."""
+    asked = [f"@{LATE} {number} planet {place(2 * number - 1)}" for number in range(1, 10001)]
+    return in_flight(asked, True)
+
+
 CASES = [
     ("founding 10000 players and 20000 planets", lambda: founding(10000)),
     ("and 200000 questions at one planet", lambda: founding(10000) + questions_at_one(200000)),
@@ -61,6 +92,11 @@ CASES = [
     ("1000 players, 2000 planets, 200000 questions at one", lambda: founding(1000) + questions_at_one(200000)),
     ("1000 players, 2000 planets, 200000 questions at many", lambda: founding(1000) + questions_at_many(200000, 1000)),
     ("a mine on each of 20000 planets, each asked 10^9 s later", lambda: founding(10000) + buildings(10000)),
+    ("10000 players with ships, none flies, 200000 questions at one", lambda: in_flight(questions_in_flight(200000, 1), False)),
+    ("10000 fleets fly, no question", lambda: in_flight([], True)),
+    ("10000 fleets fly, 200000 questions at a planet without", lambda: in_flight(questions_in_flight(200000, 1), True)),
+    ("10000 fleets fly, 200000 questions at a planet of two", lambda: in_flight(questions_in_flight(200000, 2), True)),
+    ("10000 fleets fly and are home, each target is asked", all_home),
     ("100000 launchers, asked 10^9 s later", lambda: batch("launcher", 100000)),
     ("100000 satellites, asked 10^9 s later", lambda: batch("satellite", 100000)),
 ]

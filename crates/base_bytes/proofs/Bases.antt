@@ -1,18 +1,19 @@
 -- The universe of a sound base is a base of histories.
-use Rattle.std.proofs.Common.{◌≡◌, ℕ, ◌≤◌, ◌<◌, true, false, List, [], ◌∷◌, length, inl, inr, arith, refl, ap, ◌∙◌, sym, subst}
+use Rattle.std.proofs.Common.{◌≡◌, ℕ, ◌≤◌, ◌<◌, false, List, [], ◌∷◌, length, inl, inr, arith, refl, ap, ◌∙◌, sym, subst}
 use Rattle.std.specs.Prelude.{map, All, AllPairs}
 use Rattle.std.specs.List.{Contains, flat_map}
 use Rattle.std.proofs.lemmas.List.Elements.{All-contains}
 use Rattle.account_cell.specs.Account.{account_queue, research_item, research_of}
 use Rattle.account_cell.specs.declared.account.Account.{Account}
 use Rattle.account_cell.specs.declared.research_item.ResearchItem.{ResearchItem}
-use Rattle.base_bytes.specs.Base.{all_items, own_of, own_planet, planet_items, setting_of, universe_of}
-use Rattle.base_bytes.specs.Sound.{IsSound, RunsAfter, planets_owned}
+use Rattle.base_bytes.specs.Base.{all_items, own_of, planet_items, setting_of, universe_of}
+use Rattle.base_bytes.specs.Sound.{IsSound, RunsAfter, places_owned}
 use Rattle.base_bytes.specs.declared.base.Base.{Base}
 use Rattle.base_bytes.proofs.Among.{from-flat, from-map, has-place, is-among, pairs-first, pairs-later}
-use Rattle.base_bytes.proofs.Owned.{account-listed, planet-come, planet-found, player-one, there-listed}
+use Rattle.base_bytes.proofs.Flying.{each-fleet, fleet-flies, fleets-apart, owned-by, stands-here}
+use Rattle.base_bytes.proofs.Once.{named-once}
+use Rattle.base_bytes.proofs.Owned.{account-listed, planet-come, there-listed}
 use Rattle.base_bytes.proofs.Queued.{account-queue, item-cell, planet-queue, research-is}
-use Rattle.base_ids.specs.Cells.{same_player}
 use Rattle.base_ids.specs.declared.cell_id.CellId.{CellId}
 use Rattle.base_ids.specs.declared.cell_id.CellId.TheVariants.{Account as AccountId, Planet as PlanetId}
 use Rattle.base_ids.specs.declared.coord.Coord.{Coord}
@@ -26,11 +27,12 @@ use Rattle.planet_cell.specs.declared.planet.Planet.{Planet}
 use Rattle.tick_model.proofs.Lists.{any-none, from-filter, in-append}
 use Rattle.tick_model.proofs.Queues.{IsQueued, queued-in}
 use Rattle.tick_model.proofs.Units.{unit-place}
-use Rattle.tick_model.specs.Events.{Event, item_due, home, Owes, second_of}
+use Rattle.tick_model.specs.Events.{Event, item_due, lands, home, Owes, second_of}
+use Rattle.tick_model.specs.Flights.{landing}
 use Rattle.tick_model.specs.Game.{game}
 use Rattle.tick_model.specs.Rules.{AreDistinct, IsIn, IsPlaced, KeepsRules, same_order}
 use Rattle.tick_model.specs.Universe.{of_planet, Item, PlanetFields, QueueClass, Buildings, Researches, Yard}
-use Rattle.tick_model.specs.Views.{queue_in, view}
+use Rattle.tick_model.specs.Views.{belongs, queue_in, view}
 use Rattle.tick_model.specs.World.{base_of}
 
 owner-listed : (base : Base) (planet : Planet) → IsSound base → IsIn planet base.planets.items → Contains (setting_of base).cells (AccountId planet.owner)
@@ -43,18 +45,6 @@ owned-listed : (base : Base) (cell : CellId) (fields : PlanetFields) → IsSound
 owned-listed base cell fields sound same =
     let comes = planet-come base.accounts.items base.planets.items cell fields same in
     subst (λ (f : PlanetFields). Contains (setting_of base).cells (AccountId f.owner)) comes.2 (owner-listed base comes.0 sound comes.1)
-
--- the planets of a player are the player's
-owned-by : (player : Player) (planets : List Planet) (at : Coord) → Contains (map (λ (p : Planet). p.at) (planets_owned player planets)) at
-    → (planet : Planet) × IsIn planet planets × (planet.at ≡ at) × (planet.owner ≡ player)
-owned-by player planets at has =
-    let comes = from-map (λ (p : Planet). p.at) at (planets_owned player planets) (is-among at (map (λ (p : Planet). p.at) (planets_owned player planets)) has) in
-    let kept = from-filter (λ (p : Planet). same_player p.owner player) comes.0 planets comes.1 in
-    (comes.0, kept.0, sym comes.2, player-one comes.0.owner player kept.1)
-
--- a planet stands for itself
-stands-here : (base : Base) (planet : Planet) → IsSound base → IsIn planet base.planets.items → (universe_of base).state.own (PlanetId planet.at) ≡ of_planet (fields_of planet)
-stands-here base planet sound is = ap own_planet (planet-found base planet sound is)
 
 building-placed : (base : Base) (planet : Planet) (item : Item) → IsSound base → IsIn planet base.planets.items → IsIn item (buildings_of planet) → IsPlaced (universe_of base).state item
 building-placed base planet item sound is has =
@@ -77,7 +67,7 @@ research-placed base account item sound is has =
     let home = All-contains (λ (i : ResearchItem). Contains account.planets.items i.at) account.research.items research
     (All-contains (λ (a : Account). All (λ (i : ResearchItem). Contains a.planets.items i.at) a.research.items) base.accounts.items account sound.at_home place)
     (has-place research account.research.items comes.1) in
-    let listed = All-contains (λ (a : Account). a.planets.items ≡ map (λ (p : Planet). p.at) (planets_owned a.player base.planets.items)) base.accounts.items account sound.listed place in
+    let listed = All-contains (λ (a : Account). a.planets.items ≡ places_owned a.player base.planets.items) base.accounts.items account sound.listed place in
     let planet = owned-by account.player base.planets.items research.at (subst (λ (places : List Coord). Contains places research.at) listed home) in
     subst (IsPlaced (universe_of base).state) (sym comes.2)
     (record {
@@ -156,12 +146,16 @@ keeps-rules base sound =
     let all = all_items base.accounts.items base.planets.items in
     record {
       listed = there-listed base.accounts.items base.planets.items;
+      once = λ cell has. named-once base.accounts.items base.planets.items cell sound.accounts_rise sound.planets_rise has;
       owned = λ cell planet same. owned-listed base cell planet sound same;
       kinds = λ cell planet same. kinds-known base cell planet sound same;
       placed = λ item is. item-placed base item sound is;
       drawn = λ item is. (All-contains (λ (i : Item). (1 ≤ i.number) × (i.number ≤ base.number)) all item sound.drawn (has-place item all is)).1;
       distinct = orders-distinct all sound.distinct;
       paced = λ cell batch later is. paced-at base cell batch later sound is (queue-of base cell Yard batch later is);
+      flying = λ fleet is. fleet-flies base fleet sound is;
+      sent = λ fleet is. (each-fleet base fleet sound is).drawn.1;
+      apart = fleets-apart base.fleets sound.fleets_rise;
     }
 
 -- what runs first in a queue comes due past the moment
@@ -191,6 +185,10 @@ runs-at base cell class sound (planet_of planet has at) =
 none-due : (base : Base) → IsSound base → (event : Event) → Owes (view (setting_of base).cells (universe_of base).state (home event)) event → second_of event ≤ base.moment → ⊥
 none-due base sound (item_due class item later) owes due =
     let past = first-runs _ base.moment item later owes (runs-at base item.cell class sound (queue-of base item.cell class item later owes)) in
+    omega (arith, past, due)
+none-due base sound (lands fleet) owes due =
+    let among = from-filter (belongs (PlanetId (landing fleet))) fleet base.fleets owes in
+    let past = (each-fleet base fleet sound among.0).lands in
     omega (arith, past, due)
 
 pub sound-base : (base : Base) → IsSound base → IsBase (game (setting_of base)) (base_of (universe_of base))

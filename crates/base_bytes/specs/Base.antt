@@ -1,5 +1,5 @@
 -- The universe that a base of the program stands for.
-use Rattle.std.specs.Prelude.{List, [], ◌++◌, find, map, Option, None, Some}
+use Rattle.std.specs.Prelude.{List, [], ◌++◌, filter, find, map, Option, None, Some}
 use Rattle.std.specs.List.{flat_map}
 use Rattle.account_cell.specs.Account.{account_fields, account_queue, research_of}
 use Rattle.account_cell.specs.declared.account.Account.{Account}
@@ -9,8 +9,8 @@ use Rattle.base_ids.specs.declared.cell_id.CellId.{CellId}
 use Rattle.base_ids.specs.declared.cell_id.CellId.TheVariants.{Account as AccountId, Planet as PlanetId}
 use Rattle.planet_cell.specs.Planet.{batches_of, buildings_of, fields_of, queue_of}
 use Rattle.planet_cell.specs.declared.planet.Planet.{Planet}
-use Rattle.tick_model.specs.Universe.{Item, Own, of_nothing, of_account, of_planet, Setting, Universe}
-use Rattle.tick_model.specs.Views.{View}
+use Rattle.tick_model.specs.Universe.{Fleet, Item, Own, of_nothing, of_account, of_planet, Setting, Universe}
+use Rattle.tick_model.specs.Views.{View, belongs}
 
 -- the names of the cells: the accounts, then the planets, each in their order
 abbrev pub cells_of : List Account → List Planet → List CellId
@@ -45,7 +45,7 @@ planet_items planet = buildings_of planet ++ batches_of planet
 abbrev pub all_items : List Account → List Planet → List Item
 all_items accounts planets = flat_map research_of accounts ++ flat_map planet_items planets
 
--- the universe of a base; no fleet flies yet
+-- the universe of a base
 abbrev pub universe_of : Base → Universe
 universe_of base =
     record {
@@ -56,15 +56,32 @@ universe_of base =
             number = base.number;
             own = own_of base.accounts.items base.planets.items;
             items = all_items base.accounts.items base.planets.items;
-            fleets = [];
+            fleets = base.fleets;
           };
     }
 
+-- the fleets that belong to a cell, in the order of their numbers, among all those of the universe
+abbrev pub fleets_of : CellId → List Fleet → List Fleet
+fleets_of cell fleets = filter (belongs cell) fleets
+
 -- what is seen of an account
-abbrev pub account_seen : Account → View
-account_seen account =
-    record { own = of_account (account_fields account); queue = account_queue account; fleets = []; planets = account.planets.items; units = account.units }
+abbrev pub account_seen : List Fleet → Account → View
+account_seen fleets account =
+    record {
+      own = of_account (account_fields account);
+      queue = account_queue account;
+      fleets = fleets_of (AccountId account.player) fleets;
+      planets = account.planets.items;
+      units = account.units;
+    }
 
 -- what is seen of a planet
-abbrev pub planet_seen : Planet → View
-planet_seen planet = record { own = of_planet (fields_of planet); queue = queue_of planet; fleets = []; planets = []; units = 0 }
+abbrev pub planet_seen : List Fleet → Planet → View
+planet_seen fleets planet =
+    record {
+      own = of_planet (fields_of planet);
+      queue = queue_of planet;
+      fleets = fleets_of (PlanetId planet.at) fleets;
+      planets = [];
+      units = 0;
+    }

@@ -4,5 +4,5 @@
 mod base;
 mod laws;
 
-pub use base::{Base, MOST_REQUESTS};
+pub use base::{Base, MOST_IN_GROUP, MOST_REQUESTS};
 pub use laws::stands_for_a_universe;

@@ -70,3 +70,18 @@ pub union_more : (first second all new : List CellId) (id : CellId) (i : ℕ) �
 union_more first second all new id i union within at is =
     let more = take_more second i id within ∙ ap (λ x. take i second ++ x ∷ []) (sym at) in
     rw more (union_one first (take i second) all new id union is)
+
+-- a list with a cell has it, and what it had
+pub with_has : (cells : List CellId) (id cell : CellId) → has (with_cell cells id) cell ≡ (has cells cell || same_cell id cell)
+with_has cells id cell = by_there (has cells id) refl
+  where
+    by_there : (there : Bool) → has cells id ≡ there → has (with_cell cells id) cell ≡ (has cells cell || same_cell id cell)
+    by_there true there =
+        let same = λ (is : same_cell id cell ≡ true). ap (has cells) (sym (same_cell_is id cell is)) ∙ there in
+        let taken : has (with_cell cells id) cell ≡ has cells cell = ap (λ b. has (if b then cells else cells ++ id ∷ []) cell) there in
+        grind (arith, same)
+    by_there false out =
+        let split = has-append cells (id ∷ []) cell in
+        let swap = same_cell_swap cell id in
+        let taken : has (with_cell cells id) cell ≡ has (cells ++ id ∷ []) cell = ap (λ b. has (if b then cells else cells ++ id ∷ []) cell) out in
+        grind arith

@@ -4,7 +4,7 @@ ghost use Rattle.base_ids.specs.Cells.{same_coord, same_player};
 ghost use Rattle.base_ids.specs.Order.{coord_before, player_before};
 
 use crate::spot::Spot;
-use base_ids::{Coord, Player};
+use base_ids::{CellId, Coord, Player};
 
 /// The names of all cells of a universe, fixed at its founding: the players, rising, and the planets, by rising
 /// coordinates.
@@ -17,6 +17,9 @@ pub struct Places {
 }
 
 impl Places {
+    ghost use Rattle.closure.specs.Directory.{cells_of};
+    ghost use Rattle.closure.specs.Lists.{has};
+
     /// Whether the player is one of the universe's. It looks at a number of players that grows with the logarithm of how
     /// many there are.
     pub fn has_player(&self, player: Player) -> bool
@@ -33,5 +36,15 @@ impl Places {
         self.planets
             .binary_search_by_key(&at, |spot| spot.at)
             .is_ok()
+    }
+
+    /// Whether the cell is one of the universe's.
+    pub fn has(&self, id: CellId) -> bool
+        ensures { result ≡ has (cells_of self.now) id }
+    {
+        match id {
+            CellId::Account(player) => self.has_player(player),
+            CellId::Planet(at) => self.has_planet(at),
+        }
     }
 }

@@ -9,7 +9,7 @@ ghost use Rattle.closure.specs.Lists.{has};
 ghost use Rattle.closure.specs.Closure.{AreBrought};
 
 use crate::{CellLook, Ids, Needed, Places, Spot, asked, needed};
-use base_ids::{CellId, Coord, Player};
+use base_ids::{CellId, Coord, FleetNumber, Player};
 use catalog::{Class, Count, Kind, Technology, Unit};
 use request_text::Request;
 use std::alloc::{AllocError, Global};
@@ -62,6 +62,20 @@ impl CellLook for Fake {
         else None };
 
     ghost names = { λ look. Planet look.planet.at ∷ look.accounts };
+
+    #[tactic(auto, using(crate::proofs::Sameness::same_cell_swap))]
+    fn holds(&self, id: CellId) -> bool {
+        id == CellId::Planet(self.planet.at) || self.accounts.contains(id)
+    }
+
+    fn flown(
+        &self,
+        _alloc: Global,
+        _player: Player,
+        _number: FleetNumber,
+    ) -> Result<Option<Ids>, AllocError> {
+        Ok(None)
+    }
 
     #[tactic(auto, using(crate::proofs::Sameness::same_cell_swap))]
     fn next(&self, alloc: Global, id: CellId, moment: u64) -> Result<Option<Ids>, AllocError> {

@@ -18,6 +18,7 @@ ghost use Rattle.command.specs.Statuses.{HasReason, status_of};
 use crate::status::Stopped;
 use crate::streams::write_all;
 use base_text::Bytes;
+use catalog::Mission;
 use lazy::LazyUniverse;
 use ports::{Clock, Sink, Source};
 use reply_text::write_reply;
@@ -32,10 +33,14 @@ fn is_answered_today(req: &Request) -> bool
         req,
         Request::Planet(_)
             | Request::Account
+            | Request::Fleets
+            | Request::System(_)
             | Request::Build(..)
             | Request::Research(..)
             | Request::Yard(..)
             | Request::Set(..)
+            | Request::Send(_, _, Mission::Transport | Mission::Deploy, ..)
+            | Request::Recall(_)
     )
 }
 

@@ -226,15 +226,15 @@ pub listed-counts : (player : Player) (planets : List Planet) (sketches : List S
 listed-counts player planets sketches same = sketch_counts player sketches ∙ ap (sum_by (counted_by player)) (sym same) ∙ sym (planet_counts player planets)
 
 -- a base of a heading and of these lists stands for the universe of the draft
-pub listed-universe : (base : Base) (heading : Heading) (entries : List (Player × AccountSketch)) (sketches : List Sketch) → (setting_of base).rules ≡ heading.rules → base.moment ≡ heading.moment → base.number ≡ 0
+pub listed-universe : (base : Base) (heading : Heading) (entries : List (Player × AccountSketch)) (sketches : List Sketch) → (setting_of base).rules ≡ heading.rules → base.moment ≡ heading.moment → base.number ≡ 0 → base.fleets ≡ []
     → map account_facts base.accounts.items ≡ map account_sketched entries → map facts_of base.planets.items ≡ map facts_sketched sketches
     → universe_of base ≡ founded (record { heading = heading; players = keys_of entries; owns = λ player. own_in (lookup (is_at (player_order player)) entries); planets = map planet_of sketches })
-listed-universe base heading entries sketches rules moment number listed same =
+listed-universe base heading entries sketches rules moment number fleets listed same =
     let cells = listed-cells entries base.accounts.items base.planets.items sketches listed same in
     let own = listed-own entries base.accounts.items base.planets.items sketches listed same in
     let items = listed-items base.accounts.items entries base.planets.items sketches listed same in
     λ i. record {
       setting = record { rules = rules i; cells = cells i };
       moment = moment i;
-      state = record { number = number i; own = own i; items = items i; fleets = [] };
+      state = record { number = number i; own = own i; items = items i; fleets = fleets i };
     }

@@ -1,5 +1,5 @@
 -- The base that comes of a draft is sound.
-use Rattle.std.proofs.Common.{◌≡◌, ℕ, ◌≤◌, Bool, true, false, cond, List, [], ◌∷◌, get_or, length, Option, None, Some, inl, inr, filter, arith, refl, ap, ◌∙◌, sym, subst}
+use Rattle.std.proofs.Common.{◌≡◌, ℕ, ◌+◌, ◌<◌, ◌≤◌, Bool, true, false, cond, List, [], ◌∷◌, get_or, length, Option, None, Some, inl, inr, filter, arith, refl, ap, ◌∙◌, sym, subst}
 use Rattle.std.specs.Prelude.{is_some, map, sum_by, All, AllPairs, ◌||◌}
 use Rattle.std.specs.BTreeMap.{is_at}
 use Rattle.std.specs.List.{list_any, Contains}
@@ -11,8 +11,9 @@ use Rattle.account_cell.specs.declared.account.Account.{Account}
 use Rattle.base_bytes.proofs.Among.{has-place, in-map, is-among, pairs-first, pairs-later}
 use Rattle.base_bytes.proofs.Owned.{player-one, player-same}
 use Rattle.base_bytes.specs.Base.{all_items}
-use Rattle.base_bytes.specs.Sound.{planets_owned, units_counted, IsSound, RunsAfter}
+use Rattle.base_bytes.specs.Sound.{outbound_in, places_owned, planets_owned, units_counted, units_owned, ArriveTogether, HasSlots, IsSound, IsSoundFleet, RunsAfter}
 use Rattle.base_bytes.specs.declared.base.Base.{Base}
+use Rattle.base_bytes.specs.declared.base.TheConstants.{MOST_IN_GROUP}
 use Rattle.base_ids.specs.Cells.{same_player}
 use Rattle.base_ids.specs.Order.{coord_before, player_before}
 use Rattle.base_ids.specs.declared.player.Player.{Player}
@@ -21,7 +22,7 @@ use Rattle.planet_cell.specs.Planet.{batch_item_of, batches_of, buildings_of, it
 use Rattle.planet_cell.specs.declared.planet.Planet.{Planet}
 use Rattle.tick_model.proofs.Lists.{in-filter}
 use Rattle.tick_model.specs.Rules.{IsIn, same_order}
-use Rattle.tick_model.specs.Universe.{Item}
+use Rattle.tick_model.specs.Universe.{Fleet, Item}
 use Rattle.founding.specs.DraftMaps.{places_in, places_of, planet_of, player_order, units_in}
 use Rattle.founding.specs.Drafts.{units_of, DraftPlanet}
 use Rattle.founding.specs.Filing.{account_facts, account_sketched, facts_of, facts_sketched, AccountFacts, Facts}
@@ -50,6 +51,9 @@ looked_up (e ∷ es) entry rises (inr later) =
     let before = pairs-first (λ (a b : Player × AccountSketch). player_before a.0 b.0 ≡ true) e entry es rises later in
     ap (λ b. cond b (Some e.1) (lookup (is_at (player_order entry.0)) es)) (apart_player e.0 entry.0 before) ∙ looked_up es entry (pairs-later (λ (a b : Player × AccountSketch). player_before a.0 b.0 ≡ true) e es rises) later
 
+no-more : (n : ℕ) → n ≡ n + 0
+no-more n = omega arith
+
 -- What a base is made of: the entries of a map of players, the planets that lines have made, and the lists that come of them.
 pub record Comes (entries : List (Player × AccountSketch)) (sketches : List Sketch) (accounts : List Account) (planets : List Planet) : Type 0 where
   pub accounts_are : map account_facts accounts ≡ map account_sketched entries
@@ -74,15 +78,16 @@ module _ (entries : List (Player × AccountSketch)) (sketches : List Sketch) (ac
       let from = planet-comes planets sketches planet comes.planets_are is in
       subst P (sym from.2) (each from.0 from.1))
 
-  listed-each : All (λ account. account.planets.items ≡ map (λ planet. planet.at) (planets_owned account.player planets)) accounts
+  listed-each : All (λ account. account.planets.items ≡ places_owned account.player planets) accounts
   listed-each =
-      each-account (λ facts. facts.planets ≡ map (λ (p : Planet). p.at) (planets_owned facts.player planets)) (λ entry is.
+      each-account (λ facts. facts.planets ≡ places_owned facts.player planets) (λ entry is.
       ap places_in (sym (looked_up entries entry comes.ordered is)) ∙ comes.kept entry.0 ∙ listed-places entry.0 planets sketches comes.planets_are)
 
-  counted-each : All (λ account. account.units ≡ sum_by units_counted (planets_owned account.player planets)) accounts
+  counted-each : All (λ account. account.units ≡ units_owned account.player planets []) accounts
   counted-each =
-      each-account (λ facts. facts.units ≡ sum_by units_counted (planets_owned facts.player planets)) (λ entry is.
-      ap units_in (sym (looked_up entries entry comes.ordered is)) ∙ comes.counts entry.0 ∙ listed-counts entry.0 planets sketches comes.planets_are)
+      each-account (λ facts. facts.units ≡ units_owned facts.player planets []) (λ entry is.
+      ap units_in (sym (looked_up entries entry comes.ordered is)) ∙ comes.counts entry.0 ∙ listed-counts entry.0 planets sketches comes.planets_are
+      ∙ no-more (sum_by units_counted (planets_owned entry.0 planets)))
 
   home-each : All (λ account. All (λ item. Contains account.planets.items item.at) account.research.items) accounts
   home-each = each-account (λ facts. All (λ item. Contains facts.planets item.at) facts.queue) (λ entry is k d below. absurd (omega (arith, below)))
@@ -132,25 +137,30 @@ keys-listed (e ∷ es) = ap (λ l. e.0 ∷ l) (keys-listed es)
 
 -- the base that comes of a draft is sound
 pub comes-sound : (base : Base) (entries : List (Player × AccountSketch)) (sketches : List Sketch) → Comes entries sketches base.accounts.items base.planets.items
-    → AllPairs (λ (a b : Planet). coord_before a.at b.at ≡ true) base.planets.items → IsSound base
-comes-sound base entries sketches comes rises =
+    → AllPairs (λ (a b : Planet). coord_before a.at b.at ≡ true) base.planets.items → base.fleets ≡ [] → IsSound base
+comes-sound base entries sketches comes rises none =
     let accounts = base.accounts.items in
     let planets = base.planets.items in
     let names = told-alike (λ (f : AccountFacts). f.player) accounts entries comes.accounts_are ∙ keys-listed entries in
     record {
       accounts_rise = comes.rises;
       planets_rise = rises;
+      fleets_rise = subst (AllPairs (λ (first second : Fleet). first.number < second.number)) (sym none) (λ i j d first below. absurd (omega (arith, below)));
       owned =
           each-planet entries sketches accounts planets comes (λ facts. Contains (map (λ (a : Account). a.player) accounts) facts.own.owner) (λ sketch is.
           let named = owner-named entries sketches sketch (lookup (is_at (player_order sketch.owner)) entries) refl (comes.kept sketch.owner) is in
           subst (λ (ks : List Player). Contains ks sketch.owner) (sym names) (has-place sketch.owner (keys_of entries) named));
       kinds = each-planet entries sketches accounts planets comes (λ facts. length facts.own.units ≡ length UNIT_KINDS) (λ sketch is. sketch.kinds);
       listed = listed-each entries sketches accounts planets comes;
-      counted = counted-each entries sketches accounts planets comes;
+      counted = subst (λ (fleets : List Fleet). All (λ (a : Account). a.units ≡ units_owned a.player planets fleets) accounts) (sym none) (counted-each entries sketches accounts planets comes);
       at_home = home-each entries sketches accounts planets comes;
       built = built-each entries sketches accounts planets comes base.moment;
       manned = manned-each entries sketches accounts planets comes base.moment;
       researched = researched-each entries sketches accounts planets comes base.moment;
       drawn = drawn-each entries sketches accounts planets comes base.number;
       distinct = distinct-each entries sketches accounts planets comes;
+      flying = subst (All (IsSoundFleet base)) (sym none) (λ k d below. absurd (omega (arith, below)));
+      together = subst (AllPairs ArriveTogether) (sym none) (λ i j d first below. absurd (omega (arith, below)));
+      few = λ group. subst (λ (fleets : List Fleet). length (outbound_in group fleets) ≤ MOST_IN_GROUP) (sym none) (omega arith);
+      slots = subst (λ (fleets : List Fleet). All (HasSlots fleets) accounts) (sym none) (λ k d below. omega arith);
     }

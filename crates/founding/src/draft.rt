@@ -108,7 +108,7 @@ impl Draft {
         } = self;
         let accounts = list_accounts(alloc, players, account_room);
         let planets = list_planets(alloc, &planets, planet_room);
-        heading.base(accounts, planets)
+        heading.base(alloc, accounts, planets)
     }
 
     // Names the player.

@@ -4,7 +4,9 @@ ghost use Rattle.ports.specs.declared.clock.TheConstants.{LATEST};
 
 use account_cell::Account;
 use base_bytes::Base;
+use fleet_rec::Fleets;
 use planet_cell::Planet;
+use std::alloc::Global;
 use tick_model::Rules;
 
 /// What the line `universe SEED SPEED CAPACITY MOMENT` says: the rules of the universe, how many requests its
@@ -21,18 +23,19 @@ pub struct Heading {
 }
 
 impl Heading {
-    ghost use Rattle.std.specs.Prelude.{◌≡◌};
+    ghost use Rattle.std.specs.Prelude.{◌≡◌, []};
     ghost use Rattle.base_bytes.specs.Base.{setting_of};
 
-    /// The base with these accounts and planets. No request has come.
+    /// The base with these accounts and planets. No fleet flies, and no request has come. It takes no memory.
     #[tactic(auto, using(crate::proofs::Wording::rules_is))]
-    pub fn base(self, accounts: Vec<Account>, planets: Vec<Planet>) -> Base
+    pub fn base(self, alloc: Global, accounts: Vec<Account>, planets: Vec<Planet>) -> Base
         ensures rules { (setting_of result).rules ≡ self.rules }
         ensures capacity { result.capacity ≡ self.capacity }
         ensures moment { result.moment ≡ self.moment }
         ensures number { result.number ≡ 0 }
         ensures accounts { result.accounts ≡ accounts }
         ensures planets { result.planets ≡ planets }
+        ensures fleets { result.fleets ≡ [] }
     {
         Base {
             seed: self.rules.seed,
@@ -42,6 +45,7 @@ impl Heading {
             number: 0,
             accounts,
             planets,
+            fleets: Fleets::new(alloc),
         }
     }
 }

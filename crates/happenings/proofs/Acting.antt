@@ -9,25 +9,30 @@ use Rattle.base_ids.specs.declared.player.Player.{Player}
 use Rattle.laziness.proofs.Bringing.{never, test}
 use Rattle.laziness.specs.Stamps.{Stamps, bring_to, event_acts}
 use Rattle.tick_model.specs.Changes.{seen_after}
-use Rattle.tick_model.specs.Events.{Owes, event_change, footprint}
+use Rattle.tick_model.specs.Events.{Event, Owes, event_change, footprint, home, lands, second_of}
 use Rattle.tick_model.specs.Game.{game}
 use Rattle.tick_model.specs.Production.{gains}
-use Rattle.tick_model.specs.Rules.{KeepsRules}
-use Rattle.tick_model.specs.Universe.{Item, QueueClass, Setting}
+use Rattle.tick_model.specs.Rules.{IsIn, KeepsRules}
+use Rattle.tick_model.specs.Universe.{Fleet, Item, QueueClass, Setting}
 use Rattle.tick_model.specs.Views.{View, shown, view}
 use Rattle.tick_model.specs.declared.rules.Rules.{Rules}
-use Rattle.tick_model.proofs.Effects.{event-outside, seen_of as seen_by_event}
+use Rattle.tick_model.proofs.Effects.{seen_of as seen_by_event}
+use Rattle.tick_model.proofs.Footprints.{event-outside}
 use Rattle.tick_model.proofs.Gains.{advance-keeps, gains-owe, none-gained, view-advanced}
 use Rattle.tick_model.proofs.Queues.{owed-home}
 use Rattle.tick_model.proofs.Seen.{event-seen}
 use Rattle.tick_model.proofs.Writes.{shown-alike}
-use Rattle.happenings.specs.Applying.{Happens, change_then, stand_after}
+use Rattle.fleet_rec.specs.Fleet.{fleet_seen}
+use Rattle.happenings.specs.Applying.{Happens, change_then, held_after, stand_after}
 use Rattle.happenings.specs.Coming.{ActsIn}
 use Rattle.happenings.specs.Gaining.{gained, gained_at}
+use Rattle.happenings.specs.Happening.{IsOwed, second_at}
+use Rattle.happenings.specs.Landings.{LandsIn}
 use Rattle.happenings.specs.Held.{IsNamed, Shows, ShowsCell, Stand, held_at, holds, planet_stand}
 use Rattle.happenings.specs.Orders.{place_order, player_order}
 use Rattle.happenings.specs.Queues.{class_of, event_of, home_of, items_held, seen_held, seen_of}
-use Rattle.happenings.specs.declared.due.Due.{Due}
+use Rattle.happenings.specs.declared.happening.Happening.{Happening}
+use Rattle.happenings.specs.declared.happening.Happening.TheVariants.{Item as ItemDue, Landing}
 use Rattle.happenings.specs.declared.held.AccountCell.{AccountCell}
 use Rattle.happenings.specs.declared.held.Held.{Held}
 use Rattle.happenings.specs.declared.held.PlanetCell.{PlanetCell}
@@ -70,6 +75,42 @@ owed-there setting held f queue item later shows is =
     let place = owed-home f.universe (class_of queue) (home_of queue) item later stands in
     (place, ap (λ x. (view setting.cells f.universe x).queue (class_of queue)) place ∙ stands)
 
+-- The event stands in the universe, and its home is held.
+pub record StandsThere (setting : Setting) (held : Held) (f : Stamps (game setting)) (event : Event) : Type 0 where
+  pub stands : Owes (view setting.cells f.universe (home event)) event
+  pub inside : holds held (home event) ≡ true
+
+no-fleets : (o : Option Stand) (fleet : Fleet) → IsIn fleet (seen_of o).fleets → is_some o ≡ true
+no-fleets None fleet is = absurd is
+no-fleets (Some stand) fleet is = refl
+
+landing-stands : (setting : Setting) (held : Held) (f : Stamps (game setting)) (fleet : Fleet) → Shows setting held f → LandsIn held fleet → StandsThere setting held f (lands fleet)
+landing-stands setting held f fleet shows is =
+    let place = home (lands fleet) in
+    let inside = no-fleets (held_at held place) fleet is in
+    record {
+      stands = subst (λ (v : View). IsIn fleet v.fleets) (held-seen setting held f place shows inside) is;
+      inside = inside;
+    }
+
+item-stands : (setting : Setting) (held : Held) (f : Stamps (game setting)) (queue : Queue) (item : Item) (later : List Item) → Shows setting held f → items_held held queue ≡ item ∷ later
+    → StandsThere setting held f (event_of queue item later)
+item-stands setting held f queue item later shows owed =
+    let there = owed-there setting held f queue item later shows owed in
+    record { stands = there.1; inside = ap (holds held) there.0 ∙ queue-inside held queue item later owed }
+
+-- what the cells owe is owed in the universe
+pub event-there : (setting : Setting) (held : Held) (f : Stamps (game setting)) (what : Happening) (event : Event) → Shows setting held f → IsOwed held what event → StandsThere setting held f event
+event-there setting held f (ItemDue due) event shows is =
+    subst (StandsThere setting held f) (sym is.is) (item-stands setting held f due.queue is.item is.later shows is.owed)
+event-there setting held f (Landing fleet) event shows is =
+    subst (StandsThere setting held f) (sym is.is) (landing-stands setting held f (fleet_seen fleet) shows is.owed)
+
+-- it is due at its second
+pub owed-second : (held : Held) (what : Happening) (event : Event) → IsOwed held what event → second_of event ≡ second_at what
+owed-second held (ItemDue due) event is = ap second_of is.is ∙ is.second
+owed-second held (Landing fleet) event is = ap second_of is.is
+
 -- a cell of the footprint, once it gained
 gained-shown : (setting : Setting) (f : Stamps (game setting)) (S : CellId → Bool) (second : ℕ) (cell : CellId) (o : Option Stand) → S cell ≡ true → is_some o ≡ true → IfSome o (ShowsCell setting f cell)
     → seen_of (option_map (gained setting.rules second) o) ≡ view setting.cells (bring_to (game setting) S second f).universe cell
@@ -79,7 +120,7 @@ gained-shown setting f S second cell (Some stand) has held shown =
     ap (λ s. second - s) shown.second ∙ sym (ap (λ b. cond b (second - f.at cell) 0) has) in
     (λ i. gains setting.rules (seconds i) (shown.seen i)) ∙ sym (view-advanced setting (λ x. cond (S x) (second - f.at x) 0) f.universe cell)
 
-if_some : {A : Type 0} (o : Option A) (P Q : A → Type 0) → ((x : A) → P x → Q x) → IfSome o P → IfSome o Q
+pub if_some : {A : Type 0} (o : Option A) (P Q : A → Type 0) → ((x : A) → P x → Q x) → IfSome o P → IfSome o Q
 if_some None P Q f p = tt
 if_some (Some x) P Q f p = f x p
 
@@ -88,22 +129,20 @@ mapped-shown None f P Q g p = tt
 mapped-shown (Some x) f P Q g p = g x refl p
 
 -- the cells show the universe in which the event acts
-pub shows_event : (setting : Setting) (f : Stamps (game setting)) (old new : Held) (due : Due) (item : Item) (later : List Item)
-    → Shows setting old f → KeepsRules setting f.universe → items_held old due.queue ≡ item ∷ later
-    → ((cell : CellId) → footprint (event_of due.queue item later) cell ≡ true → holds old cell ≡ true)
-    → Happens setting.rules due old new → Shows setting new (event_acts (game setting) (event_of due.queue item later) f)
-shows_event setting f old new due item later shows fine owed within happens x =
+pub shows_event : (setting : Setting) (f : Stamps (game setting)) (old new : Held) (e : Event)
+    → Shows setting old f → KeepsRules setting f.universe → Owes (view setting.cells f.universe (home e)) e
+    → ((cell : CellId) → footprint e cell ≡ true → holds old cell ≡ true)
+    → ((cell : CellId) → held_at new cell ≡ held_after setting.rules e old cell) → Shows setting new (event_acts (game setting) e f)
+shows_event setting f old new e shows fine owed within happens x =
     let M = game setting in
-    let e = event_of due.queue item later in
     let cells = footprint e in
-    let second = item.second in
+    let second = second_of e in
     let b = bring_to M cells second f in
     let g = event_acts M e f in
-    let there = owed-there setting old f due.queue item later shows owed in
     let kept = advance-keeps setting (λ y. cond (cells y) (second - f.at y) 0) f.universe fine in
-    let stands : Owes (view setting.cells b.universe item.cell) e =
-    ap (λ (v : View). v.queue (class_of due.queue)) (view-advanced setting (λ y. cond (cells y) (second - f.at y) 0) f.universe item.cell)
-    ∙ gains-owe setting.rules (cond (cells item.cell) (second - f.at item.cell) 0) (view setting.cells f.universe item.cell) e there.1 in
+    let stands : Owes (view setting.cells b.universe (home e)) e =
+    subst (λ v. Owes v e) (sym (view-advanced setting (λ y. cond (cells y) (second - f.at y) 0) f.universe (home e)))
+    (gains-owe setting.rules (cond (cells (home e)) (second - f.at (home e)) 0) (view setting.cells f.universe (home e)) e owed) in
     let brought : (y : CellId) → cells y ≡ true → seen_of (gained_at setting.rules second old y) ≡ view setting.cells b.universe y =
     λ y has. gained-shown setting f cells second y (held_at old y) has (within y has) (shows y) in
     let change : change_then setting.rules e old ≡ event_change setting.rules e (seen_by_event setting e b.universe) =
@@ -111,7 +150,7 @@ shows_event setting f old new due item later shows fine owed within happens x =
     elim (test (cells x)) [
       | inl has ↦
           (let now : held_at new x ≡ option_map (stand_after setting.rules e old x) (held_at old x) =
-          happens item later owed x ∙ ap (λ c. cond c (option_map (stand_after setting.rules e old x) (held_at old x)) (held_at old x)) has in
+          happens x ∙ ap (λ c. cond c (option_map (stand_after setting.rules e old x) (held_at old x)) (held_at old x)) has in
           subst (λ (o : Option Stand). IfSome o (ShowsCell setting g x)) (sym now)
           (mapped-shown (held_at old x) (stand_after setting.rules e old x) (ShowsCell setting f x) (ShowsCell setting g x) (λ stand is shown. record {
             second = sym (ap (λ c. cond c second (f.at x)) has);
@@ -122,7 +161,7 @@ shows_event setting f old new due item later shows fine owed within happens x =
           }) (shows x)))
       | inr out ↦
           (let now : held_at new x ≡ held_at old x =
-          happens item later owed x ∙ ap (λ c. cond c (option_map (stand_after setting.rules e old x) (held_at old x)) (held_at old x)) out in
+          happens x ∙ ap (λ c. cond c (option_map (stand_after setting.rules e old x) (held_at old x)) (held_at old x)) out in
           let still : view setting.cells b.universe x ≡ view setting.cells f.universe x =
           view-advanced setting (λ y. cond (cells y) (second - f.at y) 0) f.universe x
           ∙ ap (λ c. gains setting.rules (cond c (second - f.at x) 0) (view setting.cells f.universe x)) out ∙ none-gained setting.rules (view setting.cells f.universe x) in
@@ -134,6 +173,7 @@ shows_event setting f old new due item later shows fine owed within happens x =
     ]
 
 -- what happens to the cells is the event
-pub acts_in : (kept : Rules) (due : Due) (old new : Held) → Happens kept due old new → ActsIn kept due old new
-acts_in kept due old new happens setting f item later rules shows fine owed within =
-    shows_event setting f old new due item later shows fine owed within (subst (λ (r : Rules). Happens r due old new) (sym rules) happens)
+pub acts_in : (kept : Rules) (what : Happening) (old new : Held) → Happens kept what old new → ActsIn kept what old new
+acts_in kept what old new happens setting f event rules shows fine owed within =
+    shows_event setting f old new event shows fine (event-there setting old f what event shows owed).stands within
+    (λ cell. happens event owed cell ∙ ap (λ (r : Rules). held_after r event old cell) (sym rules))

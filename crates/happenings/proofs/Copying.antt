@@ -54,7 +54,7 @@ picked_at true false (Some s) = refl
 picked_at false true there = refl
 picked_at false false there = refl
 
-any_push : {A : Type 0} (p : A → Bool) (xs : List A) (y : A) → list_any p (xs ++ y ∷ []) ≡ (list_any p xs || p y)
+pub any_push : {A : Type 0} (p : A → Bool) (xs : List A) (y : A) → list_any p (xs ++ y ∷ []) ≡ (list_any p xs || p y)
 any_push p [] y = any_one (p y)
   where
     any_one : (b : Bool) → (b || false) ≡ (false || b)

@@ -20,8 +20,9 @@ use Rattle.tick_model.specs.Universe.{AccountFields, Buildings, Researches, Yard
 use Rattle.tick_model.specs.Views.{View, nothing_seen}
 use Rattle.tick_model.specs.declared.rules.Rules.{Rules}
 use Rattle.tick_model.proofs.Lists.{cell-is, cell-itself}
-use Rattle.happenings.specs.Applying.{CanHappen, Happens, change_then, fields_then, held_after, seen_then, stand_after}
+use Rattle.happenings.specs.Applying.{CanFinish, Finishes, change_then, fields_then, held_after, seen_then, stand_after}
 use Rattle.happenings.specs.Gaining.{gained, gained_at}
+use Rattle.happenings.specs.Landings.{HasOwnFleets, HaveOwnFleets}
 use Rattle.happenings.specs.Held.{IsNamed, account_stand, held_at, planet_stand}
 use Rattle.happenings.specs.Orders.{place_order, player_order}
 use Rattle.happenings.specs.Queues.{class_of, items_held, seen_of}
@@ -33,7 +34,7 @@ use Rattle.happenings.specs.declared.held.PlanetCell.{PlanetCell}
 use Rattle.happenings.specs.declared.queue.Queue.TheVariants.{Research as ResearchOf}
 use Rattle.happenings.proofs.Acting.{named_account, named_planet}
 use Rattle.happenings.proofs.Gains.{account-gains}
-use Rattle.happenings.proofs.Happening.{first-same}
+use Rattle.happenings.proofs.Finished.{first-same, planet-own_fleets}
 use Rattle.happenings.proofs.Putting.{account_puts}
 use Rattle.happenings.proofs.Standing.{IsWell, account-stands, planet-stands, planet_seen, seen-anew, seen-gains}
 
@@ -46,6 +47,13 @@ payers-are player (item ∷ later) at = ap (λ b. same_cell (PlanetId item.at) (
 pays-none : (player other : Player) (items : List ResearchItem) → list_any (λ item. same_cell (PlanetId item.place) (AccountId other)) (map (research_item player) items) ≡ false
 pays-none player other [] = refl
 pays-none player other (item ∷ later) = pays-none player other later
+
+-- an account that is held has only fleets that belong to it
+account-own_fleets : (held : Held) (player : Player) (cell : AccountCell) → HaveOwnFleets held → cell.account.player ≡ player → get player_order held.accounts player ≡ Some cell
+    → HasOwnFleets (AccountId cell.account.player) (account_stand cell).seen
+account-own_fleets held player cell own name found =
+    subst (λ k. HasOwnFleets (AccountId k) (account_stand cell).seen) (sym name)
+    (subst (λ o. HasOwnFleets (AccountId player) (seen_of (option_map account_stand o))) found (own (AccountId player)))
 
 -- what an account has of its own stays when research is paid
 started-own : (speed second : ℕ) (account : AccountFields) (own : CellId → Own) (of : Own) (item : Item) (later : List Item) (player : Player)
@@ -72,7 +80,7 @@ or-none : (b c : Bool) → c ≡ false → (b || c) ≡ b
 or-none true c none = refl
 or-none false c none = none
 
-module _ (rules : Rules) (old new : Held) (player : Player) (cell now : AccountCell) (first : ResearchItem) (waiting : List ResearchItem) (between : Planets) (named : IsNamed old)
+module _ (rules : Rules) (old new : Held) (player : Player) (cell now : AccountCell) (first : ResearchItem) (waiting : List ResearchItem) (between : Planets) (named : IsNamed old) (own_fleets : HaveOwnFleets old) (flown : now.fleets ≡ cell.fleets)
     (name : cell.account.player ≡ player) (found : get player_order old.accounts player ≡ Some cell) (updates : Updates player_order old.accounts new.accounts player (Some now))
     (stamp : now.second ≡ first.second) (keeps : KeepsHoldings cell.account now.account) (gains : PayersGain rules first.second waiting old.planets between)
     (fields : account_fields now.account ≡ learned (account_fields cell.account) first.kind.kind)
@@ -149,13 +157,13 @@ module _ (rules : Rules) (old new : Held) (player : Player) (cell now : AccountC
   account-after : account_stand now ≡ stand_after rules event old (AccountId cell.account.player) (account_stand cell)
   account-after =
       let seen = (account_stand cell).seen in
-      let well : IsWell (AccountId cell.account.player) seen = record { stands = account-stands cell; fleets = refl } in
+      let well : IsWell (AccountId cell.account.player) seen = record { stands = account-stands cell; fleets = account-own_fleets old player cell own_fleets name found } in
       let after = seen-anew came.own (AccountId cell.account.player) Researches came.queue (AccountId cell.account.player) seen well news in
       let self = cell-itself (AccountId cell.account.player) in
       let queues = fun_ext account-queues in
       (λ i. record {
         second = stamp i;
-        seen = record { own = account-own i; queue = queues i; fleets = []; planets = keeps.planets i; units = keeps.units i };
+        seen = record { own = account-own i; queue = queues i; fleets = flown i; planets = keeps.planets i; units = keeps.units i };
       })
       ∙ (λ i. record {
         second = first.second;
@@ -173,11 +181,11 @@ module _ (rules : Rules) (old new : Held) (player : Player) (cell now : AccountC
   account-held false k other = refl
 
   -- a planet that is to pay, and one that isn't
-  planet-after : (at : Coord) (pc : PlanetCell) → pc.planet.at ≡ at → with_own (came.own (PlanetId at)) (gained rules first.second (planet_stand pc)) ≡ stand_after rules event old (PlanetId at) (planet_stand pc)
-  planet-after at pc place =
-      let grown = seen-gains rules (first.second - pc.second) (fields_of pc.planet) (queue_of pc.planet) in
-      let seen : View = planet_seen (of_planet (fields_then rules first.second pc)) (queue_of pc.planet) in
-      let well : IsWell (PlanetId at) seen = record { stands = subst (λ p. (c : QueueClass) (i : Item) → IsIn i (queue_of pc.planet c) → (i.cell ≡ PlanetId p) × (i.class ≡ c)) place (planet-stands pc); fleets = refl } in
+  planet-after : (at : Coord) (pc : PlanetCell) → get place_order old.planets at ≡ Some pc → pc.planet.at ≡ at → with_own (came.own (PlanetId at)) (gained rules first.second (planet_stand pc)) ≡ stand_after rules event old (PlanetId at) (planet_stand pc)
+  planet-after at pc is place =
+      let grown = seen-gains rules (first.second - pc.second) (fields_of pc.planet) (queue_of pc.planet) pc.fleets in
+      let seen : View = planet_seen (of_planet (fields_then rules first.second pc)) (queue_of pc.planet) pc.fleets in
+      let well : IsWell (PlanetId at) seen = record { stands = subst (λ p. (c : QueueClass) (i : Item) → IsIn i (queue_of pc.planet c) → (i.cell ≡ PlanetId p) × (i.class ≡ c)) place (planet-stands pc); fleets = planet-own_fleets old at pc own_fleets is } in
       let after = seen-anew came.own (AccountId cell.account.player) Researches came.queue (PlanetId at) seen well news in
       (λ i. record { second = first.second; seen = record (grown i) { own = came.own (PlanetId at) } })
       ∙ (λ i. record { second = first.second; seen = sym after i })
@@ -186,7 +194,7 @@ module _ (rules : Rules) (old new : Held) (player : Player) (cell now : AccountC
   planet-mapped : (at : Coord) (o : Option PlanetCell) → get place_order old.planets at ≡ o
       → option_map (with_own (came.own (PlanetId at))) (option_map (gained rules first.second) (option_map planet_stand o)) ≡ option_map (stand_after rules event old (PlanetId at)) (option_map planet_stand o)
   planet-mapped at None is = refl
-  planet-mapped at (Some pc) is = ap Some (planet-after at pc (named_planet old at pc named is))
+  planet-mapped at (Some pc) is = ap Some (planet-after at pc is (named_planet old at pc named is))
 
   planet-held : (b : Bool) (at : Coord) → pays_some waiting at ≡ b
       → stand_in new.planets at ≡ cond b (option_map (stand_after rules event old (PlanetId at)) (stand_in old.planets at)) (stand_in old.planets at)
@@ -221,19 +229,19 @@ rest-same items item other later more one two = let both : item ∷ later ≡ ot
 research-at : (held : Held) (player : Player) (cell : AccountCell) → get player_order held.accounts player ≡ Some cell → items_held held (ResearchOf player) ≡ research_of cell.account
 research-at held player cell found = ap (λ o. (seen_of (option_map account_stand o)).queue Researches) found
 
-module _ (rules : Rules) (due : Due) (old new : Held) (player : Player) (cell now : AccountCell) (named : IsNamed old) (can : CanHappen old due) (queue : due.queue ≡ ResearchOf player)
+module _ (rules : Rules) (due : Due) (old new : Held) (player : Player) (cell now : AccountCell) (named : IsNamed old) (can : CanFinish old due) (queue : due.queue ≡ ResearchOf player)
     (found : get player_order old.accounts player ≡ Some cell) where
   -- research is done
-  pub research_happens : Updates player_order old.accounts new.accounts player (Some now) → now.second ≡ due.second → KeepsHoldings cell.account now.account
-      → FinishesResearch rules due.second cell.account now.account old.planets new.planets → Happens rules due old new
-  research_happens updates stamp keeps done item later owed =
+  pub research_happens : Updates player_order old.accounts new.accounts player (Some now) → now.second ≡ due.second → KeepsHoldings cell.account now.account → now.fleets ≡ cell.fleets
+      → FinishesResearch rules due.second cell.account now.account old.planets new.planets → Finishes rules due old new
+  research_happens updates stamp keeps flown done item later owed =
       let here : items_held old due.queue ≡ research_item cell.account.player done.item ∷ map (research_item cell.account.player) done.later =
       ap (items_held old) queue ∙ research-at old player cell found ∙ ap (map (research_item cell.account.player)) done.items in
       let first = first-same (items_held old due.queue) can.item (research_item cell.account.player done.item) can.later (map (research_item cell.account.player) done.later) can.owed here in
       let second : due.second ≡ done.item.second = sym can.second ∙ ap (λ (i : Item). i.second) first in
       let one = first-same (items_held old due.queue) (research_item cell.account.player done.item) item (map (research_item cell.account.player) done.later) later here owed in
       let rest = rest-same (items_held old due.queue) (research_item cell.account.player done.item) item (map (research_item cell.account.player) done.later) later here owed in
-      λ x. research_after rules old new player cell now done.item done.later done.between named (named_account old player cell named found) found updates (stamp ∙ second) keeps
+      λ x. research_after rules old new player cell now done.item done.later done.between named can.own_fleets flown (named_account old player cell named found) found updates (stamp ∙ second) keeps
       (subst (λ s. PayersGain rules s done.later old.planets done.between) second done.gains) done.fields
       (λ own are. done.research own are ∙ (λ i. (starts_first_research rules.speed (second i) (account_fields now.account) own (map (research_item now.account.player) done.later)).queue))
       (λ own are. subst (λ s. HaveOwns done.later (starts_first_research rules.speed s (account_fields now.account) own (map (research_item now.account.player) done.later)).own done.between new.planets)
@@ -260,7 +268,7 @@ behind-at : (second : ℕ) (o : Option PlanetCell) → IfSome (option_map planet
 behind-at second None behind = tt
 behind-at second (Some cell) behind = behind
 
-module _ (due : Due) (old : Held) (player : Player) (cell : AccountCell) (can : CanHappen old due) (queue : due.queue ≡ ResearchOf player) (found : get player_order old.accounts player ≡ Some cell) where
+module _ (due : Due) (old : Held) (player : Player) (cell : AccountCell) (can : CanFinish old due) (queue : due.queue ≡ ResearchOf player) (found : get player_order old.accounts player ≡ Some cell) where
   waits : HasRest cell.account.player cell.account.research.items can.later
   waits = has-rest cell.account.player cell.account.research.items can.item can.later (sym (ap (items_held old) queue ∙ research-at old player cell found) ∙ can.owed)
 

@@ -2,7 +2,7 @@
 use Rattle.std.proofs.Math.Path.{fun_ext}
 use Rattle.account_cell.specs.Account.{AreSame as AreSameAccounts, account_queue, research_item, research_of}
 use Rattle.account_cell.specs.declared.account.Account.{Account}
-use Rattle.std.proofs.Common.{[], ◌≡◌, ℕ, ◌-◌, ◌≤◌, zero, suc, cond, true, refl, ap, ◌∙◌, sym, subst, Option, Some, None}
+use Rattle.std.proofs.Common.{◌≡◌, ℕ, ◌-◌, ◌≤◌, zero, suc, cond, true, refl, ap, ◌∙◌, sym, subst, Option, Some, None}
 use Rattle.std.specs.Prelude.{IfSome, IsSome, is_some, option_map}
 use Rattle.std.specs.BTreeMap.{get}
 use Rattle.base_ids.specs.declared.cell_id.CellId.{CellId}
@@ -45,33 +45,33 @@ queue-same one other buildings yard Researches = refl
 queue-same one other buildings yard Yard = yard
 
 -- a planet that gained
-pub planet_gained_here : (rules : Rules) (second seconds : ℕ) (old new : PlanetCell) → new.second ≡ second → seconds ≡ second - old.second
+pub planet_gained_here : (rules : Rules) (second seconds : ℕ) (old new : PlanetCell) → new.second ≡ second → new.fleets ≡ old.fleets → seconds ≡ second - old.second
     → fields_of new.planet ≡ times seconds (planet_second rules.speed) (fields_of old.planet) → buildings_of new.planet ≡ buildings_of old.planet → batches_of new.planet ≡ batches_of old.planet
     → planet_stand new ≡ gained rules second (planet_stand old)
-planet_gained_here rules second seconds old new stamp span fields buildings yard =
+planet_gained_here rules second seconds old new stamp flown span fields buildings yard =
     let queue = fun_ext (queue-same new.planet old.planet buildings yard) in
-    let seen : planet_seen (of_planet (fields_of new.planet)) (queue_of new.planet) ≡ gains rules (second - old.second) (planet_stand old).seen =
-    (λ i. planet_seen (of_planet (fields i)) (queue i))
-    ∙ (λ i. planet_seen (of_planet (times (span i) (planet_second rules.speed) (fields_of old.planet))) (queue_of old.planet))
-    ∙ sym (seen-gains rules (second - old.second) (fields_of old.planet) (queue_of old.planet)) in
+    let seen : planet_seen (of_planet (fields_of new.planet)) (queue_of new.planet) new.fleets ≡ gains rules (second - old.second) (planet_stand old).seen =
+    (λ i. planet_seen (of_planet (fields i)) (queue i) (flown i))
+    ∙ (λ i. planet_seen (of_planet (times (span i) (planet_second rules.speed) (fields_of old.planet))) (queue_of old.planet) old.fleets)
+    ∙ sym (seen-gains rules (second - old.second) (fields_of old.planet) (queue_of old.planet) old.fleets) in
     (λ i. record { second = stamp i; seen = seen i })
 
 -- the same planet in other memory stands the same
-pub same_stand : (one other : PlanetCell) → one.second ≡ other.second → AreSame one.planet other.planet → planet_stand one ≡ planet_stand other
-same_stand one other second same =
+pub same_stand : (one other : PlanetCell) → one.second ≡ other.second → AreSame one.planet other.planet → one.fleets ≡ other.fleets → planet_stand one ≡ planet_stand other
+same_stand one other second same flown =
     let buildings : buildings_of one.planet ≡ buildings_of other.planet = (λ i. map (item_of (same.at i)) (same.buildings i)) in
     let yard : batches_of one.planet ≡ batches_of other.planet = (λ i. map (batch_item_of (same.at i)) (same.yard i)) in
     let queue = fun_ext (queue-same one.planet other.planet buildings yard) in
-    (λ i. record { second = second i; seen = planet_seen (of_planet (same.fields i)) (queue i) })
+    (λ i. record { second = second i; seen = planet_seen (of_planet (same.fields i)) (queue i) (flown i) })
 
 -- and so does the same account
-pub same_account : (one other : AccountCell) → one.second ≡ other.second → AreSameAccounts one.account other.account → account_stand one ≡ account_stand other
-same_account one other second same =
+pub same_account : (one other : AccountCell) → one.second ≡ other.second → AreSameAccounts one.account other.account → one.fleets ≡ other.fleets → account_stand one ≡ account_stand other
+same_account one other second same flown =
     let research : research_of one.account ≡ research_of other.account = (λ i. map (research_item (same.player i)) (same.research i)) in
     let queue = fun_ext (account-queue-same one.account other.account research) in
     (λ i. record {
       second = second i;
-      seen = record { own = of_account (record { techs = same.techs i }); queue = queue i; fleets = []; planets = same.planets i; units = same.units i };
+      seen = record { own = of_account (record { techs = same.techs i }); queue = queue i; fleets = flown i; planets = same.planets i; units = same.units i };
     })
   where
     account-queue-same : (one other : Account) → research_of one ≡ research_of other → (class : QueueClass) → account_queue one class ≡ account_queue other class
@@ -80,12 +80,12 @@ same_account one other second same =
     account-queue-same one other research Yard = refl
 
 -- a planet that was copied and then gained
-pub planet_gained : (rules : Rules) (moment seconds : ℕ) (cell new : PlanetCell) (copy : Planet) → new.second ≡ moment → seconds ≡ moment - cell.second → AreSame cell.planet copy
+pub planet_gained : (rules : Rules) (moment seconds : ℕ) (cell new : PlanetCell) (copy : Planet) → new.second ≡ moment → new.fleets ≡ cell.fleets → seconds ≡ moment - cell.second → AreSame cell.planet copy
     → fields_of new.planet ≡ times seconds (planet_second rules.speed) (fields_of copy) → buildings_of new.planet ≡ buildings_of copy → batches_of new.planet ≡ batches_of copy
     → planet_stand new ≡ gained rules moment (planet_stand cell)
-planet_gained rules moment seconds cell new copy stamp span same fields buildings yard =
-    let copied : PlanetCell = record { second = cell.second; planet = copy } in
-    planet_gained_here rules moment seconds copied new stamp span fields buildings yard ∙ ap (gained rules moment) (sym (same_stand cell copied refl same))
+planet_gained rules moment seconds cell new copy stamp flown span same fields buildings yard =
+    let copied : PlanetCell = record { second = cell.second; planet = copy; fleets = cell.fleets } in
+    planet_gained_here rules moment seconds copied new stamp flown span fields buildings yard ∙ ap (gained rules moment) (sym (same_stand cell copied refl same refl))
 
 -- none of the planets that are held stands later than the moment
 pub planet_behind : (moment : ℕ) (held : Held) (at : Coord) (cell : PlanetCell) → AreBehind moment held → get place_order held.planets at ≡ Some cell → cell.second ≤ moment

@@ -6,9 +6,16 @@ pub mod Gains
 pub mod Firsts
 pub mod Acting
 pub mod Owing
-pub mod Happening
+pub mod Arriving
+pub mod Left
+pub mod Landed
+pub mod Allowed
+pub mod Finished
 pub mod Discovered
 pub mod Together
 pub mod Researched
 pub mod Numbered
 pub mod Payers
+pub mod Brought
+pub mod Joined
+pub mod Fresh

@@ -11,24 +11,28 @@ use Rattle.base_ids.specs.declared.player.Player.{Player}
 use Rattle.laziness.proofs.Bringing.{never}
 use Rattle.laziness.specs.Laws.{NoneDue}
 use Rattle.laziness.specs.Stamps.{Stamps}
-use Rattle.tick_model.specs.Events.{item_due, Owes, key_of, step_of}
+use Rattle.tick_model.specs.Events.{item_due, lands, Owes, home, key_of, step_of}
+use Rattle.tick_model.specs.Rules.{IsIn}
 use Rattle.tick_model.specs.Game.{game}
-use Rattle.tick_model.specs.Universe.{Buildings as BuildingsClass, Researches as ResearchClass, Yard as YardClass, Item, QueueClass, Setting}
+use Rattle.tick_model.specs.Universe.{Buildings as BuildingsClass, Researches as ResearchClass, Yard as YardClass, Fleet, Item, QueueClass, Setting}
 use Rattle.tick_model.specs.Views.{View, view}
 use Rattle.tick_model.proofs.Keys.{key-not_before}
 use Rattle.happenings.specs.Coming.{FindsFirst, IsFirstEvent}
-use Rattle.happenings.specs.Due.{IsFirstDue, IsFirstOfThese, IsFirstOwed, IsNoneOfThese, IsNothingDue, first_of, is_of_planet, is_research, key_at, owed_by_account, owed_by_planet, sooner_of}
+use Rattle.happenings.specs.Due.{IsFirstOfQueues, IsFirstOfThese, IsFirstOwed, IsNoneOfQueues, IsNoneOfThese, first_of, is_of_planet, is_research, key_at, owed_by_account, owed_by_planet, sooner_of}
+use Rattle.happenings.specs.Happening.{IsFirstDue, IsNothingDue}
+use Rattle.happenings.specs.Landings.{LandsIn}
 use Rattle.happenings.specs.Held.{Shows, account_stand, holds, planet_stand}
 use Rattle.happenings.specs.Orders.{place_order, player_order}
 use Rattle.happenings.specs.Queues.{class_of, event_of, items_held, seen_held, seen_of}
 use Rattle.happenings.specs.declared.due.Due.{Due}
+use Rattle.happenings.specs.declared.happening.Happening.{Happening}
 use Rattle.happenings.specs.declared.held.AccountCell.{AccountCell}
 use Rattle.happenings.specs.declared.held.Held.{Held}
 use Rattle.happenings.specs.declared.held.PlanetCell.{PlanetCell}
 use Rattle.happenings.specs.declared.queue.Queue.{Queue}
 use Rattle.happenings.specs.declared.queue.Queue.TheVariants.{Buildings, Research, Yard}
-use Rattle.happenings.proofs.Acting.{held-seen, owed-there, queue-inside}
-use Rattle.happenings.proofs.Firsts.{IsFirstItem, IsSooner, first-item, is-sooner, neither-sooner, not-first, owes-first}
+use Rattle.happenings.proofs.Acting.{event-there, held-seen, owed-second}
+use Rattle.happenings.proofs.Firsts.{IsFirstItem, IsSooner, NotSooner, first-item, is-sooner, neither-sooner, not-first, owes-first}
 use Rattle.happenings.proofs.Keys.{found_holds, place_is, player_at_is}
 use Rattle.happenings.proofs.Standing.{queue-held}
 
@@ -49,60 +53,69 @@ queue-there setting held f class item later shows inside owes =
       items = (λ i. (seen_held held (found.1 i)).queue (found.2 i)) ∙ here;
     }
 
--- nothing is due in the queues that are held, so no event is due
+-- a fleet that lands in the universe lands at a planet that is held
+landing-there : (setting : Setting) (held : Held) (f : Stamps (game setting)) (fleet : Fleet) → Shows setting held f → holds held (home (lands fleet)) ≡ true
+    → Owes (view setting.cells f.universe (home (lands fleet))) (lands fleet) → LandsIn held fleet
+landing-there setting held f fleet shows inside owes =
+    subst (λ (v : View). IsIn fleet v.fleets) (sym (held-seen setting held f (home (lands fleet)) shows inside)) owes
+
+-- nothing is due in the cells that are held, so no event is due
 none-due : (setting : Setting) (held : Held) (f : Stamps (game setting)) (moment : ℕ) → Shows setting held f → IsNothingDue held moment
     → NoneDue (game setting) (holds held) moment f.universe
 none-due setting held f moment shows nothing (item_due class item later) stands inside due =
     let there = queue-there setting held f class item later shows inside stands in
-    let not_yet : moment < item.second = nothing there.queue item later refl there.items in
+    let not_yet : moment < item.second = nothing.items there.queue item later there.items in
+    omega (arith, due, not_yet)
+none-due setting held f moment shows nothing (lands fleet) stands inside due =
+    let not_yet : moment < fleet.second = nothing.fleets fleet (landing-there setting held f fleet shows inside stands) in
     omega (arith, due, not_yet)
 
-key-is : (queue : Queue) (item : Item) (later : List Item) (due : Due) → due.queue ≡ queue → item.second ≡ due.second → item.number ≡ due.number → key_of (event_of queue item later) ≡ key_at due
-key-is queue item later due queues second number = λ i. record { second = second i; number = number i; step = step_of (class_of (sym queues i)) }
-
-first-event : (setting : Setting) (held : Held) (f : Stamps (game setting)) (moment : ℕ) (due : Due) → Shows setting held f → IsFirstDue held moment due
-    → IsFirstEvent setting held moment f due
-first-event setting held f moment due shows is =
-    let there = owed-there setting held f due.queue is.item is.later shows is.owed in
-    let key = key-is due.queue is.item is.later due refl is.second is.number in
-    let second = is.second in
+first-event : (setting : Setting) (held : Held) (f : Stamps (game setting)) (moment : ℕ) (what : Happening) → Shows setting held f → IsFirstDue held moment what
+    → IsFirstEvent setting held moment f what
+first-event setting held f moment what shows is =
+    let there = event-there setting held f what is.event shows is.owed in
+    let second = owed-second held what is.event is.owed in
     let by = is.due_by in
+    let key = key_of is.event in
     record {
-      item = is.item;
-      later = is.later;
+      event = is.event;
       owed = is.owed;
-      second = is.second;
       next = record {
-        stands = there.1;
-        inside = ap (holds held) there.0 ∙ queue-inside held due.queue is.item is.later is.owed;
+        stands = there.stands;
+        inside = there.inside;
         due = omega (arith, second, by);
         first = elim [
           | item_due class item later ↦ λ stands inside in_time before.
               let other = queue-there setting held f class item later shows inside stands in
-              let after = is.first other.queue item later refl other.items in_time in
-              never (key_before (key_of (item_due class item later)) (key_at due)) (ap (key_before (key_of (item_due class item later))) (sym key) ∙ before)
-              (ap (λ c. key_before (key_of (item_due c item later)) (key_at due)) (sym other.sort) ∙ after)
+              let after = is.items other.queue item later other.items in_time in
+              never (key_before (key_of (item_due class item later)) key) before
+              (ap (λ c. key_before (key_of (item_due c item later)) key) (sym other.sort) ∙ after)
+          | lands fleet ↦ λ stands inside in_time before.
+              never (key_before (key_of (lands fleet)) key) before (is.fleets fleet (landing-there setting held f fleet shows inside stands) in_time)
         ];
       };
     }
 
 -- the first event is found
-pub finds_first : (held : Held) (moment : ℕ) (found : Option Due) → MatchOption found (IsNothingDue held moment) (IsFirstDue held moment) → FindsFirst held moment found
+pub finds_first : (held : Held) (moment : ℕ) (found : Option Happening) → MatchOption found (IsNothingDue held moment) (IsFirstDue held moment) → FindsFirst held moment found
 finds_first held moment None nothing setting f shows named = none-due setting held f moment shows nothing
-finds_first held moment (Some due) first setting f shows named = first-event setting held f moment due shows first
+finds_first held moment (Some what) first setting f shows named = first-event setting held f moment what shows first
+
+pub key-is : (queue : Queue) (item : Item) (later : List Item) (due : Due) → due.queue ≡ queue → item.second ≡ due.second → item.number ≡ due.number → key_of (event_of queue item later) ≡ key_at due
+key-is queue item later due queues second number = λ i. record { second = second i; number = number i; step = step_of (class_of (sym queues i)) }
 
 -- What isn't before the first of two isn't before either.
 abbrev pub NoneSooner : Option Due → Due → Type 0
-NoneSooner owed due = (other : Due) → owed ≡ Some other → key_before (key_at other) (key_at due) ≡ false
+NoneSooner owed due = NotSooner key_at owed due
 
-none-sooner : (one other found : Option Due) (due : Due) → sooner_of one other ≡ found → NoneSooner found due → NoneSooner one due × NoneSooner other due
+none-sooner : (one other found : Option Due) (due : Due) → sooner_of key_at one other ≡ found → NoneSooner found due → NoneSooner one due × NoneSooner other due
 none-sooner one other None due is first =
-    let neither = neither-sooner one other is in (
+    let neither = neither-sooner key_at one other is in (
       (λ d here. let no : None ≡ Some d = sym neither.0 ∙ here in absurd (cc no)),
       (λ d here. let no : None ≡ Some d = sym neither.1 ∙ here in absurd (cc no)),
     )
 none-sooner one other (Some found) due is first =
-    let both = is-sooner one other found is in
+    let both = is-sooner key_at one other found is in
     let after = first found refl in (
       (λ d here. key-not_before (key_at d) (key_at found) (key_at due) (both.first d here) after),
       (λ d here. key-not_before (key_at d) (key_at found) (key_at due) (both.second d here) after),
@@ -162,20 +175,20 @@ account_there held entry = get player_order held.accounts entry.0 ≡ Some entry
 no-planet-due : (held : Held) (moment : ℕ) → AllByRecursion (λ e. planet_owes moment e ≡ None) held.planets.entries → IsNoneOfThese is_of_planet held moment
 no-planet-due held moment all (Buildings at) item later these is =
     let here = in-planet held (λ e. planet_owes moment e ≡ None) at BuildingsClass (get place_order held.planets at) item later all refl is in
-    let none = neither-sooner (first_of moment (Buildings at) (buildings_of here.cell.planet)) (first_of moment (Yard at) (batches_of here.cell.planet)) here.holds in
+    let none = neither-sooner key_at (first_of moment (Buildings at) (buildings_of here.cell.planet)) (first_of moment (Yard at) (batches_of here.cell.planet)) here.holds in
     not-first moment (Buildings at) (buildings_of here.cell.planet) item later here.queue none.0
 no-planet-due held moment all (Research player) item later these is = never false these refl
 no-planet-due held moment all (Yard at) item later these is =
     let here = in-planet held (λ e. planet_owes moment e ≡ None) at YardClass (get place_order held.planets at) item later all refl is in
-    let none = neither-sooner (first_of moment (Buildings at) (buildings_of here.cell.planet)) (first_of moment (Yard at) (batches_of here.cell.planet)) here.holds in
+    let none = neither-sooner key_at (first_of moment (Buildings at) (buildings_of here.cell.planet)) (first_of moment (Yard at) (batches_of here.cell.planet)) here.holds in
     not-first moment (Yard at) (batches_of here.cell.planet) item later here.queue none.1
 
 -- the first of what planets owe is the first of their queues
-pub planets_first : (held : Held) (moment : ℕ) (found : Option Due) → IsFirstOwed (planet_owes moment) (planet_there held) held.planets.entries found
+pub planets_first : (held : Held) (moment : ℕ) (found : Option Due) → IsFirstOwed key_at (planet_owes moment) (planet_there held) held.planets.entries found
     → MatchOption found (IsNoneOfThese is_of_planet held moment) (IsFirstOfThese is_of_planet held moment)
 planets_first held moment None all = no-planet-due held moment all
 planets_first held moment (Some due) (found, all) =
-    planet-first held moment due found.0 found.1 all (is-sooner (first_of moment (Buildings found.0.0) (buildings_of found.0.1.planet)) (first_of moment (Yard found.0.0) (batches_of found.0.1.planet)) due found.2).either
+    planet-first held moment due found.0 found.1 all (is-sooner key_at (first_of moment (Buildings found.0.0) (buildings_of found.0.1.planet)) (first_of moment (Yard found.0.0) (batches_of found.0.1.planet)) due found.2).either
   where
     planet-after : (held : Held) (moment : ℕ) (due : Due) → AllByRecursion (λ e. NoneSooner (planet_owes moment e) due) held.planets.entries
         → (queue : Queue) (other : Item) (more : List Item) → is_of_planet queue ≡ true → items_held held queue ≡ other ∷ more → other.second ≤ moment
@@ -220,7 +233,7 @@ no-account-due held moment all (Research player) item later these is =
 no-account-due held moment all (Yard at) item later these is = never false these refl
 
 -- and so is the first of what accounts owe
-pub accounts_first : (held : Held) (moment : ℕ) (found : Option Due) → IsFirstOwed (account_owes moment) (account_there held) held.accounts.entries found
+pub accounts_first : (held : Held) (moment : ℕ) (found : Option Due) → IsFirstOwed key_at (account_owes moment) (account_there held) held.accounts.entries found
     → MatchOption found (IsNoneOfThese is_research held moment) (IsFirstOfThese is_research held moment)
 accounts_first held moment None all = no-account-due held moment all
 accounts_first held moment (Some due) (found, all) =
@@ -263,7 +276,7 @@ after-these these held moment (Some first) due is after queue other more here it
 
 first-anew : (these : Queue → Bool) (held : Held) (moment : ℕ) (found : Option Due) (due : Due) → MatchOption found (IsNoneOfThese these held moment) (IsFirstOfThese these held moment) → found ≡ Some due
     → ((queue : Queue) (other : Item) (more : List Item) → items_held held queue ≡ other ∷ more → other.second ≤ moment → key_before (key_of (event_of queue other more)) (key_at due) ≡ false)
-    → IsFirstDue held moment due
+    → IsFirstOfQueues held moment due
 first-anew these held moment None due first is after = let no : None ≡ Some due = is in absurd (cc no)
 first-anew these held moment (Some found) due first is after =
     let same : found ≡ due = cc in
@@ -280,7 +293,7 @@ first-anew these held moment (Some found) due first is after =
 
 none-of-both : (held : Held) (moment : ℕ) (one other : Option Due) → MatchOption one (IsNoneOfThese is_research held moment) (IsFirstOfThese is_research held moment)
     → MatchOption other (IsNoneOfThese is_of_planet held moment) (IsFirstOfThese is_of_planet held moment) → (one ≡ None) × (other ≡ None)
-    → IsNothingDue held moment
+    → IsNoneOfQueues held moment
 none-of-both held moment one other first second (no_research, of_planet) queue item later every items =
     elim (these-two queue) [
       | inl these ↦ subst (λ o. MatchOption o (IsNoneOfThese is_research held moment) (IsFirstOfThese is_research held moment)) no_research first queue item later these items
@@ -289,11 +302,11 @@ none-of-both held moment one other first second (no_research, of_planet) queue i
 
 -- the first of both is the first of all
 pub first_of_both : (held : Held) (moment : ℕ) (one other found : Option Due) → MatchOption one (IsNoneOfThese is_research held moment) (IsFirstOfThese is_research held moment)
-    → MatchOption other (IsNoneOfThese is_of_planet held moment) (IsFirstOfThese is_of_planet held moment) → sooner_of one other ≡ found
-    → MatchOption found (IsNothingDue held moment) (IsFirstDue held moment)
-first_of_both held moment one other None first second is = none-of-both held moment one other first second (neither-sooner one other is)
+    → MatchOption other (IsNoneOfThese is_of_planet held moment) (IsFirstOfThese is_of_planet held moment) → sooner_of key_at one other ≡ found
+    → MatchOption found (IsNoneOfQueues held moment) (IsFirstOfQueues held moment)
+first_of_both held moment one other None first second is = none-of-both held moment one other first second (neither-sooner key_at one other is)
 first_of_both held moment one other (Some due) first second is =
-    let both = is-sooner one other due is in
+    let both = is-sooner key_at one other due is in
     let after : (queue : Queue) (item : Item) (more : List Item) → items_held held queue ≡ item ∷ more → item.second ≤ moment → key_before (key_of (event_of queue item more)) (key_at due) ≡ false =
     λ queue item more items by. first-of-all held moment one other due first second both queue item more items by (these-two queue) in
     elim both.either [
@@ -302,7 +315,7 @@ first_of_both held moment one other (Some due) first second is =
     ]
   where
     first-of-all : (held : Held) (moment : ℕ) (one other : Option Due) (due : Due) → MatchOption one (IsNoneOfThese is_research held moment) (IsFirstOfThese is_research held moment)
-        → MatchOption other (IsNoneOfThese is_of_planet held moment) (IsFirstOfThese is_of_planet held moment) → IsSooner one other due
+        → MatchOption other (IsNoneOfThese is_of_planet held moment) (IsFirstOfThese is_of_planet held moment) → IsSooner key_at one other due
         → (queue : Queue) (item : Item) (more : List Item) → items_held held queue ≡ item ∷ more → item.second ≤ moment → (is_research queue ≡ true) ⊎ (is_of_planet queue ≡ true)
         → key_before (key_of (event_of queue item more)) (key_at due) ≡ false
     first-of-all held moment one other due first second both queue item more items by (inl these) = after-these is_research held moment one due first both.first queue item more these items by

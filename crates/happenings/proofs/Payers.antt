@@ -1,28 +1,20 @@
 -- The planets that are to pay the items that wait.
-use Rattle.std.proofs.Common.{◌≡◌, ℕ, ◌≤◌, nat_le, true, ◌||◌, ◌&&◌, List, [], ◌∷◌, map, take, length, refl, ap, ◌∙◌, sym, subst, arith, Option, Some}
+use Rattle.std.proofs.Common.{◌≡◌, ℕ, ◌≤◌, nat_le, true, ◌||◌, ◌&&◌, List, [], ◌∷◌, map, take, length, refl, ap, ◌∙◌, sym, arith}
 use Rattle.std.proofs.lemmas.Bool.Decides.{nat_tests}
 use Rattle.std.proofs.lemmas.List.{take_all}
-use Rattle.std.specs.BTreeMap.{get}
-use Rattle.std.specs.Prelude.{option_map}
 use Rattle.std.specs.List.{list_any}
 use Rattle.account_cell.specs.Account.{research_item}
 use Rattle.account_cell.specs.declared.research_item.ResearchItem.{ResearchItem}
 use Rattle.base_ids.specs.Cells.{same_cell}
 use Rattle.base_ids.specs.declared.cell_id.CellId.{CellId}
-use Rattle.base_ids.specs.declared.cell_id.CellId.TheVariants.{Account as AccountId, Planet}
+use Rattle.base_ids.specs.declared.cell_id.CellId.TheVariants.{Planet}
 use Rattle.base_ids.specs.declared.player.Player.{Player}
 use Rattle.closure.proofs.Sameness.{same_cell_swap}
-use Rattle.closure.specs.Closure.{AreBrought}
 use Rattle.closure.specs.Lists.{has}
 use Rattle.tick_model.specs.Events.{is_payer}
 use Rattle.tick_model.specs.Game.{research_brings}
 use Rattle.tick_model.specs.Universe.{Researches}
-use Rattle.tick_model.specs.Views.{View}
-use Rattle.happenings.specs.Held.{Stand, account_stand}
-use Rattle.happenings.specs.Orders.{player_order}
-use Rattle.happenings.specs.Sights.{AreAllPayers, is_payer_by, sees_held}
-use Rattle.happenings.specs.declared.held.AccountCell.{AccountCell}
-use Rattle.happenings.specs.declared.held.Held.{Held}
+use Rattle.happenings.specs.Sights.{AreAllPayers, is_payer_by}
 
 -- the places at which items are paid
 abbrev pub payers_of : List ResearchItem → List CellId
@@ -51,11 +43,3 @@ pub payer_brought : (player : Player) (moment : ℕ) (items : List ResearchItem)
     → is_payer_by moment items cell ≡ research_brings moment (map (research_item player) items) cell
 payer_brought player moment [] cell = refl
 payer_brought player moment (first ∷ waiting) cell = ap (λ b. nat_le first.second moment && b) (waiting-payer player waiting cell)
-
-pub account_brings : (held : Held) (id : CellId) (player : Player) (cell : AccountCell) (moment : ℕ) (cells : List CellId) → id ≡ AccountId player
-    → get player_order held.accounts player ≡ Some cell → AreAllPayers moment cell.account.research.items cells → AreBrought (sees_held held id) moment (Some cells)
-account_brings held id player cell moment cells is found all =
-    let here : sees_held held id ≡ Some (account_stand cell).seen =
-    ap (sees_held held) is ∙ ap (λ o. option_map (λ (s : Stand). s.seen) (option_map account_stand o)) found in
-    subst (λ (o : Option View). AreBrought o moment (Some cells)) (sym here)
-    (λ other. all other ∙ payer_brought cell.account.player moment cell.account.research.items other)

@@ -70,13 +70,13 @@ gains_nowhere rules second at planets none place =
     (λ same. ap (stand_in planets) (sym (coord-is at place same)) ∙ ap (option_map planet_stand) none)
 
 -- a planet that paid
-pub paid_stand : (price : Cost) (cell now : PlanetCell) → now.second ≡ cell.second
+pub paid_stand : (price : Cost) (cell now : PlanetCell) → now.second ≡ cell.second → now.fleets ≡ cell.fleets
     → fields_of now.planet ≡ record (fields_of cell.planet) { stock = paid (fields_of cell.planet).stock price }
     → buildings_of now.planet ≡ buildings_of cell.planet → batches_of now.planet ≡ batches_of cell.planet
     → planet_stand now ≡ with_own (of_planet (record (fields_of cell.planet) { stock = paid (fields_of cell.planet).stock price })) (planet_stand cell)
-paid_stand price cell now second fields buildings yard =
+paid_stand price cell now second flown fields buildings yard =
     let queue = fun_ext (queue-same now.planet cell.planet buildings yard) in
-    (λ i. record { second = second i; seen = record { own = of_planet (fields i); queue = queue i; fleets = []; planets = []; units = 0 } })
+    (λ i. record { second = second i; seen = record { own = of_planet (fields i); queue = queue i; fleets = flown i; planets = []; units = 0 } })
 
 pub pays_here : (price : Cost) (at : Coord) (old new : Planets) (cell now : PlanetCell) → get place_order old at ≡ Some cell → Updates place_order old new at (Some now)
     → planet_stand now ≡ with_own (of_planet (record (fields_of cell.planet) { stock = paid (fields_of cell.planet).stock price })) (planet_stand cell) → Pays price at old new

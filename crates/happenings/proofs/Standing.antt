@@ -23,8 +23,9 @@ use Rattle.std.specs.List.{filter_map}
 use Rattle.tick_model.specs.Universe.{Buildings, Researches, Yard, QueueClass, same_class, Fleet, Item, Own, of_planet, PlanetFields}
 use Rattle.tick_model.specs.Views.{View, belongs, stands_in}
 use Rattle.tick_model.specs.declared.rules.Rules.{Rules}
-use Rattle.tick_model.proofs.Lists.{and-from, and-is, cell-is, cell-itself, class-is, class-itself, fails, filter-all, filter-none}
+use Rattle.tick_model.proofs.Lists.{and-from, and-is, cell-is, cell-itself, class-is, class-itself, fails, filter-all, filter-none, filter_map-all}
 use Rattle.tick_model.proofs.Queues.{stands-there}
+use Rattle.happenings.specs.Landings.{HasOwnFleets, HaveOwnFleets}
 use Rattle.happenings.specs.Held.{IsNamed, account_stand, planet_stand}
 use Rattle.happenings.specs.Orders.{place_order, player_order}
 use Rattle.happenings.specs.Queues.{class_of, home_of, items_held, seen_held, seen_of}
@@ -34,16 +35,16 @@ use Rattle.happenings.specs.declared.held.PlanetCell.{PlanetCell}
 use Rattle.happenings.specs.declared.queue.Queue.{Queue}
 use Rattle.happenings.specs.declared.queue.Queue.TheVariants.{Buildings as BuildingsOf, Research as ResearchOf, Yard as YardOf}
 
--- what is seen of a planet without fleets
-abbrev pub planet_seen : Own → (QueueClass → List Item) → View
-planet_seen own queue = record { own = own; queue = queue; fleets = []; planets = []; units = 0 }
+-- what is seen of a planet
+abbrev pub planet_seen : Own → (QueueClass → List Item) → List Fleet → View
+planet_seen own queue fleets = record { own = own; queue = queue; fleets = fleets; planets = []; units = 0 }
 
 -- gains of a planet are seconds of what it has of its own
-pub seen-gains : (rules : Rules) (n : ℕ) (planet : PlanetFields) (queue : QueueClass → List Item)
-    → gains rules n (planet_seen (of_planet planet) queue) ≡ planet_seen (of_planet (times n (planet_second rules.speed) planet)) queue
+pub seen-gains : (rules : Rules) (n : ℕ) (planet : PlanetFields) (queue : QueueClass → List Item) (fleets : List Fleet)
+    → gains rules n (planet_seen (of_planet planet) queue fleets) ≡ planet_seen (of_planet (times n (planet_second rules.speed) planet)) queue fleets
 unfolding times
-seen-gains rules zero planet queue = refl
-seen-gains rules (suc n) planet queue = ap (cell_second rules) (seen-gains rules n planet queue)
+seen-gains rules zero planet queue fleets = refl
+seen-gains rules (suc n) planet queue fleets = ap (cell_second rules) (seen-gains rules n planet queue fleets)
 
 -- The items of a cell stand in its queues.
 abbrev pub StandsIn : CellId → View → Type 0
@@ -74,26 +75,29 @@ account-stands cell Buildings item is = absurd is
 account-stands cell Researches item is = research-stands cell.account.player cell.account.research.items item is
 account-stands cell Yard item is = absurd is
 
--- a cell that is held has no fleets, and its items stand in its queues
+-- the items of a cell stand in its queues, and its fleets belong to it
 pub record IsWell (cell : CellId) (seen : View) : Type 0 where
   pub stands : StandsIn cell seen
-  pub fleets : seen.fleets ≡ []
+  pub fleets : HasOwnFleets cell seen
 
-account-well : (player : Player) (o : Option AccountCell) → IfSome o (λ c. c.account.player ≡ player) → IsWell (AccountId player) (seen_of (option_map account_stand o))
-account-well player None same = record { stands = λ class item is. absurd is; fleets = refl }
-account-well player (Some cell) same = record { stands = subst (λ k. StandsIn (AccountId k) (account_stand cell).seen) same (account-stands cell); fleets = refl }
+account-items : (player : Player) (o : Option AccountCell) → IfSome o (λ c. c.account.player ≡ player) → StandsIn (AccountId player) (seen_of (option_map account_stand o))
+account-items player None same = λ class item is. absurd is
+account-items player (Some cell) same = subst (λ k. StandsIn (AccountId k) (account_stand cell).seen) same (account-stands cell)
 
-planet-well : (at : Coord) (o : Option PlanetCell) → IfSome o (λ c. c.planet.at ≡ at) → IsWell (PlanetId at) (seen_of (option_map planet_stand o))
-planet-well at None same = record { stands = λ class item is. absurd is; fleets = refl }
-planet-well at (Some cell) same = record { stands = subst (λ k. StandsIn (PlanetId k) (planet_stand cell).seen) same (planet-stands cell); fleets = refl }
+planet-items : (at : Coord) (o : Option PlanetCell) → IfSome o (λ c. c.planet.at ≡ at) → StandsIn (PlanetId at) (seen_of (option_map planet_stand o))
+planet-items at None same = λ class item is. absurd is
+planet-items at (Some cell) same = subst (λ k. StandsIn (PlanetId k) (planet_stand cell).seen) same (planet-stands cell)
 
-pub held-well : (held : Held) (cell : CellId) → IsNamed held → IsWell cell (seen_held held cell)
-held-well held (AccountId player) named = account-well player (get player_order held.accounts player) (named.players player)
-held-well held (PlanetId at) named = planet-well at (get place_order held.planets at) (named.places at)
+pub held-stands : (held : Held) (cell : CellId) → IsNamed held → StandsIn cell (seen_held held cell)
+held-stands held (AccountId player) named = account-items player (get player_order held.accounts player) (named.players player)
+held-stands held (PlanetId at) named = planet-items at (get place_order held.planets at) (named.places at)
+
+pub held-well : (held : Held) (cell : CellId) → IsNamed held → HaveOwnFleets held → IsWell cell (seen_held held cell)
+held-well held cell named fleets = record { stands = held-stands held cell named; fleets = fleets cell }
 
 -- the first item of a queue that is held is an item of its cell and its class
 pub first-is : (held : Held) (queue : Queue) (item : Item) (later : List Item) → IsNamed held → items_held held queue ≡ item ∷ later → (item.cell ≡ home_of queue) × (item.class ≡ class_of queue)
-first-is held queue item later named is = (held-well held (home_of queue) named).stands (class_of queue) item (subst (IsIn item) (sym is) (inl refl))
+first-is held queue item later named is = held-stands held (home_of queue) named (class_of queue) item (subst (IsIn item) (sym is) (inl refl))
 
 -- each queue that is not empty is one of the three
 no-items : {A : Type 0} (item : Item) (later : List Item) → [] ≡ item ∷ later → A
@@ -159,14 +163,14 @@ pub seen-anew : (own : CellId → Own) (home : CellId) (class : QueueClass) (ite
     → seen_after (new_queue own home class items) cell seen ≡ record seen { own = own cell; queue = λ c. cond (same_cell home cell && same_class class c) items (seen.queue c) }
 seen-anew own home class items cell seen well news =
     let queue = fun_ext (λ c. queue-anew own home class items cell c (seen.queue c) (well.stands c) news) in
-    let none = well.fleets in
     λ i. record {
       own = own cell;
       queue = queue i;
-      fleets = (fleets-same cell seen.fleets none) i;
+      fleets = (fleets-same cell seen.fleets well.fleets) i;
       planets = seen.planets;
       units = seen.units;
     }
   where
-    fleets-same : (cell : CellId) (fleets : List Fleet) → fleets ≡ [] → filter (belongs cell) (filter_map Some fleets) ++ [] ≡ fleets
-    fleets-same cell fleets none = ap (λ fs. filter (belongs cell) (filter_map Some fs) ++ []) none ∙ sym none
+    fleets-same : (cell : CellId) (fleets : List Fleet) → ((fleet : Fleet) → IsIn fleet fleets → belongs cell fleet ≡ true) → filter (belongs cell) (filter_map Some fleets) ++ [] ≡ fleets
+    fleets-same cell fleets own =
+        append-nil (filter (belongs cell) (filter_map Some fleets)) ∙ ap (filter (belongs cell)) (filter_map-all fleets) ∙ filter-all (belongs cell) fleets own

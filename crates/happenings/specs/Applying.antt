@@ -12,19 +12,24 @@ use Rattle.tick_model.specs.Views.{View, shown}
 use Rattle.tick_model.specs.declared.rules.Rules.{Rules}
 use Rattle.happenings.specs.Gaining.{gained, gained_at}
 use Rattle.happenings.specs.Held.{Stand, held_at}
+use Rattle.happenings.specs.Landings.{HaveOwnFleets}
 use Rattle.happenings.specs.Queues.{event_of, items_held, seen_of}
+use Rattle.happenings.specs.Happening.{IsOwed}
 use Rattle.happenings.specs.declared.due.Due.{Due}
+use Rattle.happenings.specs.declared.happening.Happening.{Happening}
 use Rattle.happenings.specs.declared.held.Held.{Held}
 use Rattle.happenings.specs.declared.held.PlanetCell.{PlanetCell}
 
--- The event can happen: the first item of a queue that is held is due, and no cell that is held and that it needs stands later.
-pub record CanHappen (held : Held) (due : Due) : Type 0 where
+-- An item can be finished: the first item of a queue that is held is due, and no cell that is held and that its event needs stands
+-- later. The cells have only fleets that belong to them.
+pub record CanFinish (held : Held) (due : Due) : Type 0 where
   pub item : Item
   pub later : List Item
   pub owed : items_held held due.queue ≡ item ∷ later
   pub second : item.second ≡ due.second
   pub in_time : due.second ≤ LATEST
   pub behind : (cell : CellId) → footprint (event_of due.queue item later) cell ≡ true → IfSome (held_at held cell) (λ stand. stand.second ≤ due.second)
+  pub own_fleets : HaveOwnFleets held
 
 -- what is seen of the cells that an event needs, once they have gained until its second
 abbrev pub seen_then : Rules → Event → Held → CellId → View
@@ -45,9 +50,13 @@ held_after rules event held cell =
     if footprint event cell then option_map (stand_after rules event held cell) (held_at held cell) else held_at held cell
 
 -- the event of the first item of this queue has happened
-abbrev pub Happens : Rules → Due → Held → Held → Type 0
-Happens rules due old new =
+abbrev pub Finishes : Rules → Due → Held → Held → Type 0
+Finishes rules due old new =
     (item : Item) (later : List Item) → items_held old due.queue ≡ item ∷ later → (cell : CellId) → held_at new cell ≡ held_after rules (event_of due.queue item later) old cell
+
+-- what happens is this event, and it has happened
+abbrev pub Happens : Rules → Happening → Held → Held → Type 0
+Happens rules what old new = (event : Event) → IsOwed old what event → (cell : CellId) → held_at new cell ≡ held_after rules event old cell
 
 -- what a planet that is held has of its own, once it has gained until a second
 abbrev pub fields_then : Rules → ℕ → PlanetCell → PlanetFields

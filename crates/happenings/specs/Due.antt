@@ -20,11 +20,11 @@ use Rattle.happenings.specs.declared.queue.Queue.TheVariants.{Buildings, Researc
 abbrev pub key_at : Due → EventKey
 key_at due = record { second = due.second; number = due.number; step = step_of (class_of due.queue) }
 
--- the first of two events, each of which may be missing
-abbrev pub sooner_of : Option Due → Option Due → Option Due
-sooner_of None other = other
-sooner_of (Some due) None = Some due
-sooner_of (Some due) (Some event) = if key_before (key_at event) (key_at due) then Some event else Some due
+-- the first of two, each of which may be missing, by what orders them
+abbrev pub sooner_of : {D : Type 0} → (D → EventKey) → Option D → Option D → Option D
+sooner_of key None other = other
+sooner_of key (Some one) None = Some one
+sooner_of key (Some one) (Some other) = if key_before (key other) (key one) then Some other else Some one
 
 -- the first item of a queue, if it is due by a moment
 abbrev pub first_of : ℕ → Queue → List Item → Option Due
@@ -34,7 +34,7 @@ first_of moment queue (item ∷ later) =
 
 -- what the planet at a place owes by a moment
 abbrev pub owed_by_planet : ℕ → Coord → PlanetCell → Option Due
-owed_by_planet moment at cell = sooner_of (first_of moment (Buildings at) (buildings_of cell.planet)) (first_of moment (Yard at) (batches_of cell.planet))
+owed_by_planet moment at cell = sooner_of key_at (first_of moment (Buildings at) (buildings_of cell.planet)) (first_of moment (Yard at) (batches_of cell.planet))
 
 -- what the account of a player owes by a moment
 abbrev pub owed_by_account : ℕ → Player → AccountCell → Option Due
@@ -56,11 +56,11 @@ abbrev pub IsNoneOfThese : (Queue → Bool) → Held → ℕ → Type 0
 IsNoneOfThese these held moment = (queue : Queue) (item : Item) (later : List Item) → these queue ≡ true → items_held held queue ≡ item ∷ later → moment < item.second
 
 -- what is due first of all queues that are held
-abbrev pub IsFirstDue : Held → ℕ → Due → Type 0
-IsFirstDue held moment due = IsFirstOfThese (λ queue. true) held moment due
+abbrev pub IsFirstOfQueues : Held → ℕ → Due → Type 0
+IsFirstOfQueues held moment due = IsFirstOfThese (λ queue. true) held moment due
 
-abbrev pub IsNothingDue : Held → ℕ → Type 0
-IsNothingDue held moment = IsNoneOfThese (λ queue. true) held moment
+abbrev pub IsNoneOfQueues : Held → ℕ → Type 0
+IsNoneOfQueues held moment = IsNoneOfThese (λ queue. true) held moment
 
 -- the research queues, and those of planets
 abbrev pub is_research : Queue → Bool
@@ -74,7 +74,7 @@ is_of_planet (Research player) = false
 is_of_planet (Yard at) = true
 
 -- it is the first that some cells owe, of which this holds, and none if none owes anything
-abbrev pub IsFirstOwed : {A : Type 0} → (A → Option Due) → (A → Type 0) → List A → Option Due → Type 0
-IsFirstOwed owed there cells None = AllByRecursion (λ cell. owed cell ≡ None) cells
-IsFirstOwed {A} owed there cells (Some due) =
-    ((cell : A) × there cell × (owed cell ≡ Some due)) × AllByRecursion (λ cell. (other : Due) → owed cell ≡ Some other → key_before (key_at other) (key_at due) ≡ false) cells
+abbrev pub IsFirstOwed : {A D : Type 0} → (D → EventKey) → (A → Option D) → (A → Type 0) → List A → Option D → Type 0
+IsFirstOwed key owed there cells None = AllByRecursion (λ cell. owed cell ≡ None) cells
+IsFirstOwed {A} {D} key owed there cells (Some first) =
+    ((cell : A) × there cell × (owed cell ≡ Some first)) × AllByRecursion (λ cell. (other : D) → owed cell ≡ Some other → key_before (key other) (key first) ≡ false) cells

@@ -28,7 +28,7 @@ abbrev pub account_stand : AccountCell → Stand
 account_stand cell =
     record {
       second = cell.second;
-      seen = record { own = of_account (account_fields cell.account); queue = account_queue cell.account; fleets = []; planets = cell.account.planets.items; units = cell.account.units };
+      seen = record { own = of_account (account_fields cell.account); queue = account_queue cell.account; fleets = cell.fleets; planets = cell.account.planets.items; units = cell.account.units };
     }
 
 -- a planet that is held
@@ -36,7 +36,7 @@ abbrev pub planet_stand : PlanetCell → Stand
 planet_stand cell =
     record {
       second = cell.second;
-      seen = record { own = of_planet (fields_of cell.planet); queue = queue_of cell.planet; fleets = []; planets = []; units = 0 };
+      seen = record { own = of_planet (fields_of cell.planet); queue = queue_of cell.planet; fleets = cell.fleets; planets = []; units = 0 };
     }
 
 -- what is held of the cell of this name

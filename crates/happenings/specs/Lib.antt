@@ -2,7 +2,9 @@ pub mod Orders
 pub mod Held
 pub mod Queues
 pub mod Due
+pub mod Happening
 pub mod Gaining
+pub mod Landings
 pub mod Applying
 pub mod Researching
 pub mod Merging
@@ -10,3 +12,4 @@ pub mod Sights
 pub mod Naming
 pub mod Coming
 pub mod Numbering
+pub mod Joining

@@ -1,7 +1,9 @@
--- The number of an item that was ordered. Rules: docs/RULES.md, "The building queue", "The research queue" and "The yard".
-use Rattle.std.specs.Prelude.{◌≡◌, ℕ, Option, None, Some, option_map, if◌then◌else◌}
+-- The number of an item that was ordered, or of a fleet that was sent. Rules: docs/RULES.md, "The building queue", "The research queue",
+-- "The yard" and "Fleets".
+use Rattle.std.specs.Prelude.{◌≡◌, ℕ, Bool, Option, None, Some, option_map, if◌then◌else◌}
 use Rattle.base_ids.specs.Cells.{same_cell}
 use Rattle.base_ids.specs.declared.cell_id.CellId.{CellId}
+use Rattle.fleet_rec.specs.Fleets.{last_numbered}
 use Rattle.planet_cell.specs.Queue.{numbered}
 use Rattle.tick_model.specs.Universe.{QueueClass, same_class}
 use Rattle.happenings.specs.Held.{Stand, held_at}
@@ -23,3 +25,12 @@ numbered_at number (Some queue) held cell =
 -- the last item of a queue has this number, and all other queues are held as before
 abbrev pub Numbers : ℕ → Queue → Held → Held → Type 0
 Numbers number queue old new = (cell : CellId) → held_at new cell ≡ numbered_at number (Some queue) old cell
+
+-- the last fleet of a cell has this number
+abbrev pub fleet_numbered : ℕ → Stand → Stand
+fleet_numbered number stand = record stand { seen = record stand.seen { fleets = last_numbered number stand.seen.fleets } }
+
+-- the last fleet of each of these cells has this number, and all others are held as before
+abbrev pub NumbersFleet : (CellId → Bool) → ℕ → Held → Held → Type 0
+NumbersFleet cells number old new =
+    (cell : CellId) → held_at new cell ≡ (if cells cell then option_map (fleet_numbered number) (held_at old cell) else held_at old cell)

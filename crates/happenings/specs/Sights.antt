@@ -1,5 +1,5 @@
 -- What cells that are held tell of themselves.
-use Rattle.std.specs.Prelude.{◌≡◌, ◌&&◌, ℕ, List, [], ◌∷◌, ◌++◌, Bool, false, nat_le, Option, map, option_map}
+use Rattle.std.specs.Prelude.{◌≡◌, ◌&&◌, ℕ, List, [], ◌∷◌, ◌++◌, Bool, true, false, nat_le, Option, None, Some, map, option_map}
 use Rattle.std.specs.List.{list_any}
 use Rattle.account_cell.specs.declared.research_item.ResearchItem.{ResearchItem}
 use Rattle.base_ids.specs.Cells.{same_cell}
@@ -7,6 +7,9 @@ use Rattle.closure.specs.Lists.{has}
 use Rattle.std.specs.BTreeMap.{keys}
 use Rattle.base_ids.specs.declared.cell_id.CellId.{CellId}
 use Rattle.base_ids.specs.declared.cell_id.CellId.TheVariants.{Account, Planet}
+use Rattle.base_ids.specs.declared.player.Player.{Player}
+use Rattle.tick_model.specs.Sending.{belongs_out, fleet_of}
+use Rattle.tick_model.specs.Universe.{Fleet}
 use Rattle.tick_model.specs.Views.{View}
 use Rattle.happenings.specs.Held.{held_at}
 use Rattle.happenings.specs.declared.held.Held.{Held}
@@ -14,6 +17,11 @@ use Rattle.happenings.specs.declared.held.Held.{Held}
 -- what is seen of a cell, if it is held
 abbrev pub sees_held : Held → CellId → Option View
 sees_held held cell = option_map (λ stand. stand.seen) (held_at held cell)
+
+-- these are the cells of the player's fleet that flies out, among these fleets; or there is none
+abbrev pub AreFlownOf : List Fleet → Player → ℕ → Option (List CellId) → Type 0
+AreFlownOf fleets player number None = (cell : CellId) → belongs_out cell (fleet_of player number fleets) ≡ false
+AreFlownOf fleets player number (Some cells) = (has cells (Account player) ≡ true) × ((cell : CellId) → has cells cell ≡ belongs_out cell (fleet_of player number fleets))
 
 -- the names under which cells are held: the accounts, then the planets
 abbrev pub names_held : Held → List CellId

@@ -1,9 +1,10 @@
 ghost use Rattle.std.specs.Prelude.{◌≡◌, ◌≤◌, OnErr, OnOk};
-ghost use Rattle.happenings.specs.Applying.{CanHappen, Happens};
-ghost use Rattle.happenings.specs.Coming.{ActsIn};
+ghost use Rattle.happenings.specs.Applying.{Happens};
+ghost use Rattle.happenings.specs.Coming.{ActsIn, CanHappen};
 ghost use Rattle.happenings.specs.Held.{IsEqual, IsNamed};
 
 use crate::due::Due;
+use crate::happening::Happening;
 use crate::held::{Held, PlanetCell};
 use crate::queue::Queue;
 use crate::researching::finish_research;
@@ -12,21 +13,20 @@ use std::alloc::AllocError;
 use tick_model::Rules;
 
 /// An event happens: the cells that it needs gain until its second, and then the building or the research that runs is done, or the
-/// next unit of a yard.
+/// next unit of a yard, or a fleet lands.
 ///
 /// It fails only if memory runs out, and the cells then stay as they were. No event of today takes any.
-pub fn apply(cells: &mut Held, rules: &Rules, due: Due) -> Result<(), AllocError>
-    requires due { CanHappen cells.old due }
+pub fn apply(cells: &mut Held, rules: &Rules, what: Happening) -> Result<(), AllocError>
+    requires can { CanHappen cells.old what }
     requires named { IsNamed cells.old }
-    ensures happens { OnOk result (Happens rules.now due cells.old cells.new) }
-    ensures acts { OnOk result (ActsIn rules.now due cells.old cells.new) }
+    ensures happens { OnOk result (Happens rules.now what cells.old cells.new) }
+    ensures acts { OnOk result (ActsIn rules.now what cells.old cells.new) }
     ensures named { OnOk result (IsNamed cells.new) }
     ensures err { OnErr result (IsEqual cells.old cells.new) }
 {
-    match due.queue {
-        Queue::Buildings(at) => cells.finish_building(rules, due, at),
-        Queue::Research(player) => cells.finish_research(rules, due, player),
-        Queue::Yard(at) => cells.finish_unit(rules, due, at),
+    match what {
+        Happening::Item(due) => cells.finish(rules, due),
+        Happening::Landing(fleet) => cells.land(rules, &fleet),
     }
     Ok(())
 }
@@ -45,6 +45,7 @@ impl PlanetCell {
     pub(crate) fn gain_to(&mut self, rules: &Rules, second: u64)
         requires { self.old.second ≤ second }
         ensures stand { planet_stand self.new ≡ gained rules.now second (planet_stand self.old) }
+        ensures fleets { self.new.fleets ≡ self.old.fleets }
         ensures at { self.new.planet.at ≡ self.old.planet.at }
     {
         self.planet.advance(second - self.second, rules.speed);
@@ -58,6 +59,7 @@ impl PlanetCell {
         ensures second { self.new.second ≡ second }
         ensures built { built_of self.new.planet ≡ finished rules.now.speed (fields_then rules.now second self.old) (buildings_of self.old.planet) }
         ensures yard { batches_of self.new.planet ≡ batches_of self.old.planet }
+        ensures fleets { self.new.fleets ≡ self.old.fleets }
         ensures at { self.new.planet.at ≡ self.old.planet.at }
     {
         self.planet.advance(second - self.second, rules.speed);
@@ -72,6 +74,7 @@ impl PlanetCell {
         ensures second { self.new.second ≡ second }
         ensures built { built (yard_of self.new.planet) ≡ unit_finished rules.now.speed (fields_then rules.now second self.old) (batches_of self.old.planet) }
         ensures buildings { buildings_of self.new.planet ≡ buildings_of self.old.planet }
+        ensures fleets { self.new.fleets ≡ self.old.fleets }
         ensures at { self.new.planet.at ≡ self.old.planet.at }
     {
         self.planet.advance(second - self.second, rules.speed);
@@ -82,16 +85,30 @@ impl PlanetCell {
 
 impl Held {
     ghost use Rattle.std.specs.Prelude.{◌≡◌};
-    ghost use Rattle.happenings.specs.Applying.{CanHappen, Happens};
+    ghost use Rattle.happenings.specs.Applying.{CanFinish, Finishes};
     ghost use Rattle.happenings.specs.Held.{IsNamed};
     ghost use Rattle.happenings.specs.declared.queue.Queue.TheVariants.{Buildings, Research, Yard};
 
+    // The first item of a queue is done, or of a yard the next unit.
+    fn finish(&mut self, rules: &Rules, due: Due)
+        requires due { CanFinish self.old due }
+        requires named { IsNamed self.old }
+        ensures finishes { Finishes rules.now due self.old self.new }
+        ensures named { IsNamed self.new }
+    {
+        match due.queue {
+            Queue::Buildings(at) => self.finish_building(rules, due, at),
+            Queue::Research(player) => self.finish_research(rules, due, player),
+            Queue::Yard(at) => self.finish_unit(rules, due, at),
+        }
+    }
+
     // The building that runs on the planet at a place is done.
     fn finish_building(&mut self, rules: &Rules, due: Due, at: Coord)
-        requires due { CanHappen self.old due }
+        requires due { CanFinish self.old due }
         requires named { IsNamed self.old }
         requires queue { due.queue ≡ Buildings at }
-        ensures happens { Happens rules.now due self.old self.new }
+        ensures happens { Finishes rules.now due self.old self.new }
         ensures named { IsNamed self.new }
     {
         let Some(cell) = self.planets.get_mut(&at) else {
@@ -102,10 +119,10 @@ impl Held {
 
     // The next unit of the yard of the planet at a place is done.
     fn finish_unit(&mut self, rules: &Rules, due: Due, at: Coord)
-        requires due { CanHappen self.old due }
+        requires due { CanFinish self.old due }
         requires named { IsNamed self.old }
         requires queue { due.queue ≡ Yard at }
-        ensures happens { Happens rules.now due self.old self.new }
+        ensures happens { Finishes rules.now due self.old self.new }
         ensures named { IsNamed self.new }
     {
         let Some(cell) = self.planets.get_mut(&at) else {
@@ -116,10 +133,10 @@ impl Held {
 
     // The research that runs in a player's account is done.
     fn finish_research(&mut self, rules: &Rules, due: Due, player: Player)
-        requires due { CanHappen self.old due }
+        requires due { CanFinish self.old due }
         requires named { IsNamed self.old }
         requires queue { due.queue ≡ Research player }
-        ensures happens { Happens rules.now due self.old self.new }
+        ensures happens { Finishes rules.now due self.old self.new }
         ensures named { IsNamed self.new }
     {
         let Some(cell) = self.accounts.get_mut(&player) else {

@@ -1,11 +1,14 @@
 ghost use Rattle.std.specs.Prelude.{◌≡◌};
-ghost use Rattle.happenings.specs.Due.{sooner_of};
+ghost use Rattle.happenings.specs.Due.{key_at, sooner_of};
+ghost use Rattle.happenings.specs.Happening.{first_of_two, landing_key};
 
+use crate::happening::{Happening, lands_before};
 use crate::held::{AccountCell, Held, PlanetCell};
 use crate::queue::Queue;
 use base_ids::{Coord, Player};
+use fleet_rec::Fleet;
 
-/// What is due first: at which second, by which order, and in which queue.
+/// An item that is due: at which second, by which order, and in which queue.
 #[derive(Clone, Copy, Debug, PartialEq, Eq)]
 pub struct Due {
     pub second: u64,
@@ -32,14 +35,47 @@ impl Due {
     }
 }
 
-/// The first of two events, each of which may be missing.
+/// The first of two items, each of which may be missing.
 fn sooner(first: Option<Due>, other: Option<Due>) -> Option<Due>
-    ensures { result ≡ sooner_of first other }
+    ensures { result ≡ sooner_of key_at first other }
 {
     match (first, other) {
         (Some(due), Some(event)) if event.is_before(due) => other,
         (None, _) => other,
         _ => first,
+    }
+}
+
+/// The one that lands first of two fleets, each of which may be missing.
+fn sooner_landing(first: Option<Fleet>, other: Option<Fleet>) -> Option<Fleet>
+    ensures { result ≡ sooner_of landing_key first other }
+{
+    let Some(fleet) = first else {
+        return other;
+    };
+    let Some(next) = other else {
+        return first;
+    };
+    if next.is_before(&fleet) { other } else { first }
+}
+
+/// What comes first of an item and a landing, each of which may be missing.
+fn first_of_two(item: Option<Due>, landing: Option<Fleet>) -> Option<Happening>
+    ensures { result ≡ first_of_two item landing }
+{
+    let Some(due) = item else {
+        let Some(fleet) = landing else {
+            return None;
+        };
+        return Some(Happening::Landing(fleet));
+    };
+    let Some(fleet) = landing else {
+        return Some(Happening::Item(due));
+    };
+    if lands_before(&fleet, due) {
+        Some(Happening::Landing(fleet))
+    } else {
+        Some(Happening::Item(due))
     }
 }
 
@@ -111,17 +147,36 @@ impl PlanetCell {
 impl Held {
     ghost use Rattle.std.specs.Prelude.{MatchOption};
     ghost use Rattle.happenings.specs.Coming.{FindsFirst};
-    ghost use Rattle.happenings.specs.Due.{IsFirstDue, IsFirstOfThese, IsNoneOfThese, IsNothingDue, is_of_planet, is_research};
+    ghost use Rattle.happenings.specs.Due.{IsFirstOfQueues, IsFirstOfThese, IsNoneOfQueues, IsNoneOfThese, is_of_planet, is_research};
+    ghost use Rattle.happenings.specs.Happening.{IsFirstDue, IsFirstLanding, IsNoLanding, IsNothingDue};
 
-    /// The first event that a cell of these owes by a moment.
-    pub fn first_due(&self, moment: u64) -> Option<Due>
+    /// What happens first of all that a cell of these owes by a moment.
+    pub fn first_due(&self, moment: u64) -> Option<Happening>
         ensures due { MatchOption result (IsNothingDue self.now moment) (IsFirstDue self.now moment) }
         ensures shown { FindsFirst self.now moment result }
+    {
+        first_of_two(self.item_due(moment), self.landing_due(moment))
+    }
+
+    // The first item that is due by a moment.
+    fn item_due(&self, moment: u64) -> Option<Due>
+        ensures { MatchOption result (IsNoneOfQueues self.now moment) (IsFirstOfQueues self.now moment) }
     {
         sooner(self.research_due(moment), self.planet_due(moment))
     }
 
-    // The first event that an account owes by a moment.
+    // The fleet that lands first by a moment.
+    fn landing_due(&self, moment: u64) -> Option<Fleet>
+        ensures { MatchOption result (IsNoLanding self.now moment) (IsFirstLanding self.now moment) }
+    {
+        let mut first = None;
+        'planets: for (at, cell) in self.planets.iter() {
+            first = sooner_landing(first, cell.fleets.first_landing(*at, moment));
+        }
+        first
+    }
+
+    // The first item of an account that is due by a moment.
     fn research_due(&self, moment: u64) -> Option<Due>
         ensures { MatchOption result (IsNoneOfThese is_research self.now moment) (IsFirstOfThese is_research self.now moment) }
     {
@@ -132,7 +187,7 @@ impl Held {
         first
     }
 
-    // The first event that a planet owes by a moment.
+    // The first item of a planet that is due by a moment.
     fn planet_due(&self, moment: u64) -> Option<Due>
         ensures { MatchOption result (IsNoneOfThese is_of_planet self.now moment) (IsFirstOfThese is_of_planet self.now moment) }
     {

@@ -1,21 +1,24 @@
 use account_cell::Account;
 use base_ids::{CellId, Coord, Player};
+use fleet_rec::Fleets;
 use planet_cell::Planet;
 use std::alloc::{AllocError, Global};
 use std::collections::BTreeMap;
 
-/// An account at its own second.
+/// An account at its own second, and the fleets that belong to it.
 #[derive(Debug, Drop)]
 pub struct AccountCell {
     pub second: u64,
     pub account: Account,
+    pub fleets: Fleets,
 }
 
-/// A planet at its own second.
+/// A planet at its own second, and the fleets that belong to it.
 #[derive(Debug, Drop)]
 pub struct PlanetCell {
     pub second: u64,
     pub planet: Planet,
+    pub fleets: Fleets,
 }
 
 impl AccountCell {
@@ -29,6 +32,7 @@ impl AccountCell {
         Ok(AccountCell {
             second: self.second,
             account: self.account.copy()?,
+            fleets: self.fleets.copy()?,
         })
     }
 }
@@ -40,11 +44,12 @@ impl PlanetCell {
 
     /// The same cell, in memory of its own.
     pub fn copy(&self) -> Result<PlanetCell, AllocError>
-        ensures { IfOk result (λ cell. (cell.second ≡ self.now.second) × AreSame self.now.planet cell.planet) }
+        ensures { IfOk result (λ cell. (cell.second ≡ self.now.second) × AreSame self.now.planet cell.planet × (cell.fleets ≡ self.now.fleets)) }
     {
         Ok(PlanetCell {
             second: self.second,
             planet: self.planet.copy()?,
+            fleets: self.fleets.copy()?,
         })
     }
 }

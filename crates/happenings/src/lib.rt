@@ -4,14 +4,20 @@
 mod applying;
 mod due;
 mod gaining;
+mod happening;
 mod held;
+mod joining;
+mod landing;
 mod looking;
 mod merging;
 mod numbering;
 mod queue;
 mod researching;
+#[cfg(test)]
+mod tests;
 
 pub use applying::apply;
 pub use due::Due;
+pub use happening::Happening;
 pub use held::{AccountCell, Held, PlanetCell};
 pub use queue::Queue;

@@ -36,6 +36,7 @@ pub fn finish_research(
     requires behind { PayersBehind (drop 1 cell.old.account.research.items) second planets.old }
     ensures second { cell.new.second ≡ second }
     ensures keeps { KeepsHoldings cell.old.account cell.new.account }
+    ensures fleets { cell.new.fleets ≡ cell.old.fleets }
     ensures done { FinishesResearch rules.now second cell.old.account cell.new.account planets.old planets.new }
     ensures placed { ArePlaced planets.old → ArePlaced planets.new }
 {

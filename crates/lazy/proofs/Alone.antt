@@ -14,18 +14,18 @@ use Rattle.planet_cell.specs.Yard.{IsAhead}
 use Rattle.rates.specs.Times.{times}
 use Rattle.tick_model.specs.Buildings.{Built}
 use Rattle.tick_model.specs.Changes.{new_queue, owns, put_own, seen_after}
-use Rattle.tick_model.specs.Events.{Event, Owes, footprint, item_due}
+use Rattle.tick_model.specs.Events.{Event, Owes, footprint, home, item_due, lands}
 use Rattle.tick_model.specs.Game.{game}
 use Rattle.tick_model.specs.Production.{planet_second}
 use Rattle.tick_model.specs.Rules.{IsBatch, IsIn, KeepsRules, queue_cell}
 use Rattle.tick_model.specs.Universe.{Buildings, Researches, Yard, Item, PlanetFields, QueueClass, Setting, of_planet, same_class}
-use Rattle.tick_model.specs.Views.{View, nothing_seen, view}
+use Rattle.tick_model.specs.Views.{View, belongs, nothing_seen, view}
 use Rattle.tick_model.specs.Yards.{manned, unit_done, yard_left}
 use Rattle.tick_model.specs.declared.rules.Rules.{Rules}
 use Rattle.tick_model.proofs.Effects.{has-home, seen_of, still-there}
 use Rattle.tick_model.proofs.GameLaws.{game_laws}
 use Rattle.tick_model.proofs.Gains.{advance-keeps}
-use Rattle.tick_model.proofs.Lists.{and-from, and-is, cell-is, cell-itself, class-is}
+use Rattle.tick_model.proofs.Lists.{and-from, and-is, cell-is, cell-itself, class-is, from-filter}
 use Rattle.tick_model.proofs.Queues.{owed-home, queued, queued-in}
 use Rattle.tick_model.proofs.Seen.{event-seen}
 use Rattle.lazy.specs.Running.{is_running, run_before, run_until, with_yard}
@@ -47,8 +47,7 @@ yard-class batches queue Yard = refl
 
 -- What a unit makes of its planet.
 module _ (setting : Setting) (g : Stamps (game setting)) (item : Item) (later : List Item) (planet : PlanetFields) (fine : KeepsRules setting g.universe)
-    (owes : Owes (view setting.cells g.universe item.cell) (item_due Yard item later)) (own : (view setting.cells g.universe item.cell).own ≡ of_planet planet)
-    (fleets : (view setting.cells g.universe item.cell).fleets ≡ []) where
+    (owes : Owes (view setting.cells g.universe item.cell) (item_due Yard item later)) (own : (view setting.cells g.universe item.cell).own ≡ of_planet planet) where
   abbrev unit : Event
   unit = item_due Yard item later
 
@@ -94,7 +93,7 @@ module _ (setting : Setting) (g : Stamps (game setting)) (item : Item) (later : 
   well : IsWell item.cell (view setting.cells there.universe item.cell)
   well = record {
     stands = λ class i is. let found = queued-in there.universe.items item.cell class i is in (found.place, found.class_is);
-    fleets = ap (λ (v : View). v.fleets) there-seen ∙ fleets;
+    fleets = λ fleet is. (from-filter (belongs item.cell) fleet there.universe.fleets is).1;
   }
 
   pub unit-seen : view setting.cells (event_acts (game setting) unit g).universe item.cell
@@ -128,7 +127,7 @@ and-fails false b is = refl
 
 -- Until a second by which only the yards of a set have events.
 module _ (setting : Setting) (S : CellId → Bool) (limit moment : ℕ) (f : Stamps (game setting)) (can : CanBring (game setting) S moment f) (some : 1 ≤ limit) (within : limit ≤ moment + 1)
-    (quiet : (x : CellId) → S x ≡ true → IsQuiet limit (stand_in setting f x)) (bare : (x : CellId) → S x ≡ true → (view setting.cells f.universe x).fleets ≡ []) where
+    (quiet : (x : CellId) → S x ≡ true → IsQuiet limit x (stand_in setting f x)) where
   abbrev until : ℕ
   until = limit - 1
 
@@ -183,6 +182,13 @@ module _ (setting : Setting) (S : CellId → Bool) (limit moment : ℕ) (f : Sta
       other-queue Researches level one other same = ap (λ (s : Stand). s.seen.queue Researches) same
       other-queue Yard level one other same = never true refl level
 
+  fleets-stay : (g : Stamps (game setting)) → Kept g → (x : CellId) → S x ≡ true → (view setting.cells g.universe x).fleets ≡ (view setting.cells f.universe x).fleets
+  fleets-stay g kept x inside =
+      elim (test (runs x)) [
+        | inl has ↦ ap (λ (s : Stand). s.seen.fleets) ((kept x inside).0 has).same
+        | inr out ↦ ap (λ (s : Stand). s.seen.fleets) ((kept x inside).1 out)
+      ]
+
   only : (g : Stamps (game setting)) → Kept g → (class : QueueClass) (item : Item) (later : List Item) → IsNext (game setting) S until g.universe (item_due class item later)
       → (class ≡ Yard) × (runs item.cell ≡ true)
   only g kept Buildings item later next =
@@ -220,8 +226,7 @@ module _ (setting : Setting) (S : CellId → Bool) (limit moment : ℕ) (f : Sta
       let e = item_due Yard item later in
       let old = (kept x next.inside).0 has in
       let now = view setting.cells g.universe x in
-      let fleets = ap (λ (s : Stand). s.seen.fleets) old.same ∙ bare x next.inside in
-      let seen = unit-seen setting g item later old.planet can_g.fine next.stands old.own fleets in
+      let seen = unit-seen setting g item later old.planet can_g.fine next.stands old.own in
       let at : (event_acts (game setting) e g).at x ≡ item.second = at-inside (game setting) (footprint e) item.second g x (has-home Yard item later) in
       let found = queued g.universe Yard x item later next.stands item (inl refl) in
       let batch = subst (λ c. IsBatch c item) found.class_is (can_g.fine.placed item found.within).batch in
@@ -262,6 +267,12 @@ module _ (setting : Setting) (S : CellId → Bool) (limit moment : ℕ) (f : Sta
       let one = only g kept class item later next in
       subst (λ c. IsNext (game setting) S until g.universe (item_due c item later) → Kept (event_acts (game setting) (item_due c item later) g)) (sym one.0)
       (λ unit. unit-keeps g item later can_g kept unit one.1) next
+  each-stays g (lands fleet) can_g kept next =
+      let place = home (lands fleet) in
+      let there : IsIn fleet (view setting.cells f.universe place).fleets = subst (IsIn fleet) (fleets-stay g kept place next.inside) next.stands in
+      let late : limit ≤ fleet.second = (quiet place next.inside).landings fleet there refl in
+      let due : fleet.second ≤ until = next.due in
+      absurd (omega (arith, late, due))
 
   -- At the end.
 

@@ -17,7 +17,7 @@ use Rattle.lazy.proofs.Outcoming.{at_number}
 use Rattle.lazy.proofs.Showing.{are-shown}
 use Rattle.lazy.specs.Planning.{CanAnswer, HoldsSame}
 use Rattle.lazy.specs.Taking.{AreTaken, IsTaken, seen_by}
-use Rattle.orders.specs.Acting.{AreShown, IsSeenAs, account_seen, place_named, planet_seen}
+use Rattle.orders.specs.Acting.{IsSeenAs, account_seen, from_place, planet_seen}
 use Rattle.orders.specs.Granting.{AreCounted}
 use Rattle.orders.specs.declared.parts.Parts.{Parts}
 use Rattle.planet_cell.specs.Planet.{batches_of, fields_of}
@@ -28,7 +28,7 @@ use Rattle.tick_model.specs.Game.{game}
 use Rattle.tick_model.specs.Requests.{Sight, asked}
 use Rattle.tick_model.specs.Rules.{IsIn}
 use Rattle.tick_model.specs.Step.{sight_of}
-use Rattle.tick_model.specs.Universe.{Setting, State, Yard}
+use Rattle.tick_model.specs.Universe.{Fleet, Setting, State, Yard}
 use Rattle.tick_model.specs.Views.{Holding, View, holding, holding_at, units_held, units_left, units_of, view}
 use Rattle.tick_model.specs.declared.rules.Rules.{Rules}
 
@@ -45,11 +45,11 @@ part-le f x (first ∷ later) (inl same) = subst (λ n. f x ≤ n) (sym (sum_by-
 part-le f x (first ∷ later) (inr is) = subst (λ n. f x ≤ n) (sym (sum_by-cons f first later)) (later-le (f x) (sum_by f later) (f first) (part-le f x later is))
 
 -- an account counts the units of each planet of its player
-counted-in : (cells : List CellId) (held : CellId → Option Holding) (player : Player) (cell : CellId) (there : Holding) → IsIn cell cells → held cell ≡ Some there
-    → same_player there.owner player ≡ true → there.units ≤ units_of cells held (Account player)
-counted-in cells held player cell there is found own =
-    subst (λ n. n ≤ units_of cells held (Account player)) (ap (units_held player) found ∙ ap (λ b. cond b there.units 0) own)
-    (part-le (λ x. units_held player (held x)) cell cells is)
+counted-in : (cells : List CellId) (held : CellId → Option Holding) (fleets : List Fleet) (player : Player) (cell : CellId) (there : Holding) → IsIn cell cells → held cell ≡ Some there
+    → same_player there.owner player ≡ true → there.units ≤ units_of cells held fleets (Account player)
+counted-in cells held fleets player cell there is found own =
+    subst (λ n. n ≤ units_of cells held fleets (Account player)) (ap (units_held player) found ∙ ap (λ b. cond b there.units 0) own)
+    (let part = part-le (λ x. units_held player (held x)) cell cells is in omega (arith, part))
 
 module _ (setting : Setting) (player : Player) (req : Request) (moment : ℕ) (state : State) where
   abbrev sight : Sight
@@ -58,25 +58,27 @@ module _ (setting : Setting) (player : Player) (req : Request) (moment : ℕ) (s
   abbrev asks : CellId → Bool
   asks = asked setting.cells (view setting.cells state) player req
 
-  planet-counted : (at : Coord) (account : AccountOfProgram) (planet : PlanetOfProgram) → account.player ≡ player → sight.seen (Account player) ≡ account_seen (Some account)
-      → sight.seen (Planet at) ≡ planet_seen (Some planet) → same_player planet.owner account.player ≡ true → sum planet.units + units_left (batches_of planet) ≤ account.units
-  planet-counted at account planet whose caller from own =
+  planet-counted : (at : Coord) (account : AccountOfProgram) (planet : PlanetOfProgram) (flown moored : List Fleet) → account.player ≡ player
+      → sight.seen (Account player) ≡ account_seen (Some account) flown → sight.seen (Planet at) ≡ planet_seen (Some planet) moored
+      → same_player planet.owner account.player ≡ true → sum planet.units + units_left (batches_of planet) ≤ account.units
+  planet-counted at account planet flown moored whose caller from own =
       let caller_asked = shown-account asks (view setting.cells state) (Account player) _ (ap (λ (v : View). v.own) caller) in
       let planet_asked = (shown-planet asks (view setting.cells state) (Planet at) _ (ap (λ (v : View). v.own) from)).0 in
       let account_there = sym (shown-there asks (view setting.cells state) (Account player) caller_asked) ∙ caller in
       let planet_there = sym (shown-there asks (view setting.cells state) (Planet at) planet_asked) ∙ from in
       subst (λ n. sum planet.units + units_left (batches_of planet) ≤ n) (ap (λ (v : View). v.units) account_there)
-      (counted-in setting.cells (holding_at state) player (Planet at) (record { owner = planet.owner; units = sum planet.units + units_left (batches_of planet) })
+      (counted-in setting.cells (holding_at state) state.fleets player (Planet at) (record { owner = planet.owner; units = sum planet.units + units_left (batches_of planet) })
       (is-among (Planet at) setting.cells (asked-in setting.cells (view setting.cells state) player req (Planet at) planet_asked))
       (ap (λ (v : View). holding v.own (v.queue Yard)) planet_there)
       (ap (same_player planet.owner) (sym whose) ∙ own))
 
-  parts-counted : (caller : Option AccountOfProgram) (named : Option Coord) (from : Option PlanetOfProgram) → IfSome caller (λ account. account.player ≡ player)
-      → sight.seen (Account player) ≡ account_seen caller → IfSome named (λ at. IsSeenAs (at_number 0 sight) at from) → (named ≡ None → from ≡ None) → AreCounted caller from
-  parts-counted None named from whose account place none = tt
-  parts-counted (Some a) named None whose account place none = tt
-  parts-counted (Some a) None (Some p) whose account place none = absurd (let both = none refl in cc)
-  parts-counted (Some a) (Some at) (Some p) whose account place none = λ own. planet-counted at a p whose account place.seen own
+  parts-counted : (caller : Option AccountOfProgram) (named : Option Coord) (from : Option PlanetOfProgram) (flown moored : List Fleet)
+      → IfSome caller (λ account. account.player ≡ player) → sight.seen (Account player) ≡ account_seen caller flown
+      → IfSome named (λ at. IsSeenAs (at_number 0 sight) at from moored) → (named ≡ None → from ≡ None) → AreCounted caller from
+  parts-counted None named from flown moored whose account place none = tt
+  parts-counted (Some a) named None flown moored whose account place none = tt
+  parts-counted (Some a) None (Some p) flown moored whose account place none = absurd (let both = none refl in cc)
+  parts-counted (Some a) (Some at) (Some p) flown moored whose account place none = λ own. planet-counted at a p flown moored whose account place.seen own
 
 matched-none : {A B : Type 0} (o : Option A) (from : Option B) (P : A → Type 0) → MatchOption o (from ≡ None) P → o ≡ None → from ≡ None
 matched-none None from P is none = is
@@ -85,8 +87,10 @@ matched-none (Some x) from P is none = absurd (cc none)
 -- the parts that were taken are counted
 pub are-counted : (setting : Setting) (kept : Rules) (places : Places) (held : Held) (player : Player) (req : Request) (moment : ℕ) (f : Stamps (game setting))
     → CanAnswer setting kept places held player req moment f → (now : Held) → HoldsSame held now → Shows setting now (brought (game setting) (holds held) moment f)
-    → (parts : Parts) → AreTaken (seen_by now player) player req parts → AreCounted parts.caller parts.from
+    → (parts : Parts) → AreTaken setting.cells (seen_by now player) player req parts → AreCounted parts.caller parts.from
 are-counted setting kept places held player req moment f can now same shows parts taken =
     let shown = are-shown setting kept places held player req moment f can now same shows parts taken in
-    parts-counted setting player req moment (brought (game setting) (holds held) moment f).universe parts.caller (place_named req) parts.from shown.whose shown.caller shown.from
-    (matched-none (place_named req) parts.from (λ at. IsTaken (seen_by now player (Planet at)) at parts.from) taken.from)
+    let named = from_place player parts.fleets.caller req in
+    parts-counted setting player req moment (brought (game setting) (holds held) moment f).universe parts.caller named parts.from parts.fleets.caller parts.fleets.from
+    shown.whose shown.caller shown.from
+    (matched-none named parts.from (λ at. IsTaken (seen_by now player (Planet at)) at parts.from parts.fleets.from) taken.from)

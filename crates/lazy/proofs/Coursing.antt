@@ -1,5 +1,5 @@
 -- The course of cells through the events that they owe by a moment.
-use Rattle.std.proofs.Common.{◌≡◌, ℕ, ◌+◌, ◌<◌, ◌≤◌, inl, inr, Bool, true, [], refl, ap, ◌∙◌, sym, subst, arith, Option, Some, None}
+use Rattle.std.proofs.Common.{◌≡◌, ℕ, ◌+◌, ◌<◌, ◌≤◌, inl, inr, Bool, true, refl, ap, ◌∙◌, sym, subst, arith, Option, Some, None}
 use Rattle.std.proofs.Math.Path.{fun_ext}
 use Rattle.std.specs.Prelude.{IfOk, IfSome, is_some, option_map}
 use Rattle.std.specs.declared.result.Result.{Result}
@@ -8,23 +8,20 @@ use Rattle.base_ids.specs.declared.cell_id.CellId.{CellId}
 use Rattle.laziness.proofs.Bringing.{early}
 use Rattle.laziness.specs.Laws.{IsNext, NoneDue}
 use Rattle.laziness.specs.Stamps.{AgreeStamped, Stamps, bring_to, brought, event_acts, happened}
-use Rattle.laziness.specs.Theorems.{CanBring}
+use Rattle.laziness.specs.Theorems.{CanBring, FirstActs}
 use Rattle.ports.specs.declared.clock.TheConstants.{LATEST}
-use Rattle.happenings.specs.Applying.{CanHappen}
-use Rattle.happenings.specs.Due.{IsFirstDue}
-use Rattle.happenings.specs.Coming.{ActsIn, FindsFirst}
+use Rattle.happenings.specs.Coming.{ActsIn, CanHappen, FindsFirst, IsFirstEvent}
 use Rattle.happenings.specs.Gaining.{AreBehind, Gains, GainsIn, gained}
 use Rattle.happenings.specs.Held.{IsEqual, IsNamed, Shows, ShowsCell, Stand, held_at, holds}
-use Rattle.happenings.specs.declared.due.Due.{Due}
+use Rattle.happenings.specs.Happening.{second_at}
+use Rattle.happenings.specs.declared.happening.Happening.{Happening}
 use Rattle.happenings.specs.declared.held.Held.{Held}
 use Rattle.happenings.specs.Naming.{held_named}
-use Rattle.happenings.specs.Queues.{event_of}
 use Rattle.happenings.specs.Sights.{names_held}
-use Rattle.happenings.proofs.Acting.{held-seen, owed-there}
-use Rattle.happenings.proofs.Standing.{held-well}
+use Rattle.happenings.proofs.Acting.{event-there, owed-second}
+use Rattle.tick_model.specs.Events.{footprint, second_of}
 use Rattle.tick_model.specs.Game.{game}
 use Rattle.tick_model.specs.Universe.{Setting}
-use Rattle.tick_model.specs.Views.{View, view}
 use Rattle.tick_model.specs.declared.rules.Rules.{Rules}
 use Rattle.tick_model.proofs.Keeping.{game_cells}
 use Rattle.lazy.specs.Advancing.{AdvancesIn}
@@ -102,69 +99,69 @@ starts-equal = course-starts AreEqual (λ setting S moment f. refl)
 pub starts-alike : (kept : Rules) (held now : Held) (moment : ℕ) → IsEqual held now → IsNamed now → Courses AgreeThen kept held moment now
 starts-alike = course-starts AgreeThen (λ setting S moment f. record { view = λ x inside. refl; at = λ x inside. refl })
 
--- a cell that shows a universe stands no later than an event that the universe's cell stands no later than
-stand-by : (setting : Setting) (g : Stamps (game setting)) (cell : CellId) (second due : ℕ) (o : Option Stand) → g.at cell ≤ second → second ≡ due → IfSome o (ShowsCell setting g cell)
-    → IfSome o (λ stand. stand.second ≤ due)
-stand-by setting g cell second due None timely is shown = tt
-stand-by setting g cell second due (Some stand) timely is shown = let stamp : stand.second ≡ g.at cell = shown.second in omega (arith, stamp, timely, is)
-
 module _ (Agree : Agreement) (kept : Rules) (held now : Held) (moment : ℕ) (course : Courses Agree kept held moment now) where
   -- the same set of cells
   set-is : holds now ≡ holds held
   set-is = fun_ext course.same
 
-  -- the first event happens
-  module _ (due : Due) (finds : FindsFirst now moment (Some due)) where
-    lead-next : (new : Held) → ActsIn kept due now new → (setting : Setting) (f : Stamps (game setting)) → CanAdvance setting kept held moment f
-        → LeadsOn Agree setting (holds held) moment f new
-    lead-next new acts setting f can =
-        let M = game setting in
-        let lead = course.leads setting f can in
-        let first = finds setting lead.stamps lead.shows course.named in
-        let event = event_of due.queue first.item first.later in
-        let next = subst (λ (S : CellId → Bool). IsNext M S moment lead.stamps.universe event) set-is first.next in
-        let after = (game_cells setting).first (holds held) moment lead.stamps event lead.can_bring next in
-        record {
-          stamps = event_acts M event lead.stamps;
-          shows = acts setting lead.stamps first.item first.later can.rules lead.shows lead.can_bring.fine first.owed (λ cell needed. course.same cell ∙ after.inside cell needed);
-          can_bring = after.still;
-          rest = subst (λ h. Agree setting (holds held) moment h (happened M (holds held) moment f)) (sym after.rest) lead.rest;
-        }
+  -- what is found is the first event of each universe that the cells show
+  module _ (what : Happening) (finds : FindsFirst now moment (Some what)) where
+    module _ (setting : Setting) (f : Stamps (game setting)) (can : CanAdvance setting kept held moment f) where
+      abbrev lead : LeadsOn Agree setting (holds held) moment f now
+      lead = course.leads setting f can
 
-    -- the first event can happen
-    pub can-happen : (setting : Setting) (f : Stamps (game setting)) → CanAdvance setting kept held moment f → IsFirstDue now moment due → moment ≤ LATEST → CanHappen now due
-    can-happen setting f can first latest =
-        let lead = course.leads setting f can in
-        let there = owed-there setting now lead.stamps due.queue first.item first.later lead.shows first.owed in
-        let by = first.due_by in
-        record {
-          item = first.item;
-          later = first.later;
-          owed = first.owed;
-          second = first.second;
-          in_time = omega (arith, by, latest);
-          behind = λ cell needed. stand-by setting lead.stamps cell first.item.second due.second (held_at now cell)
-              (lead.can_bring.timely (event_of due.queue first.item first.later) there.1 cell needed) first.second (lead.shows cell);
-        }
+      abbrev first : IsFirstEvent setting now moment lead.stamps what
+      first = finds setting lead.stamps lead.shows course.named
 
-    -- fewer events are left then
-    pub course-falls : (new : Held) → ActsIn kept due now new → HoldsSame now new → (setting : Setting) (f : Stamps (game setting)) → CanAdvance setting kept held moment f
-        → waiting_in new (names_held held) < waiting_in now (names_held held)
-    course-falls new acts same setting f can =
-        let M = game setting in
-        let lead = course.leads setting f can in
-        let first = finds setting lead.stamps lead.shows course.named in
-        let event = event_of due.queue first.item first.later in
-        let next = subst (λ (S : CellId → Bool). IsNext M S moment lead.stamps.universe event) set-is first.next in
-        let inside = ((game_cells setting).first (holds held) moment lead.stamps event lead.can_bring next).inside in
-        waiting_falls setting lead.stamps now new due first.item first.later lead.shows lead.can_bring.fine first.owed
-        (acts setting lead.stamps first.item first.later can.rules lead.shows lead.can_bring.fine first.owed (λ cell needed. course.same cell ∙ inside cell needed)) same held course.same
+      first-acts : FirstActs (game setting) (holds held) moment lead.stamps first.event
+      first-acts =
+          let next = subst (λ (S : CellId → Bool). IsNext (game setting) S moment lead.stamps.universe first.event) set-is first.next in
+          (game_cells setting).first (holds held) moment lead.stamps first.event lead.can_bring next
 
-    pub course-goes-on : (new : Held) → ActsIn kept due now new → IsNamed new → HoldsSame now new → Courses Agree kept held moment new
+      -- the cells have all that it needs
+      all-within : (cell : CellId) → footprint first.event cell ≡ true → holds now cell ≡ true
+      all-within cell needed = course.same cell ∙ first-acts.inside cell needed
+
+      shows-then : (new : Held) → ActsIn kept what now new → Shows setting new (event_acts (game setting) first.event lead.stamps)
+      shows-then new acts = acts setting lead.stamps first.event can.rules lead.shows lead.can_bring.fine first.owed all-within
+
+      lead-next : (new : Held) → ActsIn kept what now new → LeadsOn Agree setting (holds held) moment f new
+      lead-next new acts = record {
+        stamps = event_acts (game setting) first.event lead.stamps;
+        shows = shows-then new acts;
+        can_bring = first-acts.still;
+        rest = subst (λ h. Agree setting (holds held) moment h (happened (game setting) (holds held) moment f)) (sym first-acts.rest) lead.rest;
+      }
+
+      -- it can happen
+      pub can-happen : moment ≤ LATEST → CanHappen now what
+      can-happen latest =
+          let due : second_of first.event ≤ moment = first.next.due in
+          let second : second_of first.event ≡ second_at what = owed-second now what first.event first.owed in
+          record {
+            setting = setting;
+            stamps = lead.stamps;
+            shows = lead.shows;
+            fine = lead.can_bring.fine;
+            event = first.event;
+            owed = first.owed;
+            in_time = omega (arith, due, second, latest);
+            within = all-within;
+            timely = λ cell needed. subst (λ (n : ℕ). lead.stamps.at cell ≤ n) second (lead.can_bring.timely first.event first.next.stands cell needed);
+          }
+
+      -- fewer events are left then
+      pub course-falls : (new : Held) → ActsIn kept what now new → HoldsSame now new → waiting_in new (names_held held) < waiting_in now (names_held held)
+      course-falls new acts same =
+          let there = event-there setting now lead.stamps what first.event lead.shows first.owed in
+          waiting_falls setting lead.stamps now new first.event lead.shows lead.can_bring.fine there.stands there.inside (shows-then new acts) same held course.same
+
+    -- and the course goes on
+    pub course-goes-on : (new : Held) → ActsIn kept what now new → IsNamed new → HoldsSame now new → Courses Agree kept held moment new
     course-goes-on new acts named same = record {
       named = named;
       same = λ cell. same cell ∙ course.same cell;
-      leads = lead-next new acts;
+      leads = λ setting f can. lead-next setting f can new acts;
     }
 
   -- no event is due any more
@@ -210,12 +207,8 @@ module _ (kept : Rules) (held now : Held) (moment : ℕ) (course : Courses Agree
       stand-is : (x : CellId) → holds held x ≡ true → held_at now x ≡ Some (stand_in setting g x)
       stand-is x inside = held-stand setting g x (held_at now x) (course.same x ∙ inside) (shows x)
 
-      all-are-quiet : (x : CellId) → holds held x ≡ true → IsQuiet limit (stand_in setting g x)
+      all-are-quiet : (x : CellId) → holds held x ≡ true → IsQuiet limit x (stand_in setting g x)
       all-are-quiet x inside = all-quiet now (moment + 1) (names_held now) x (stand_in setting g x) (held_named now x (course.same x ∙ inside)) (stand-is x inside)
-
-      all-are-bare : (x : CellId) → holds held x ≡ true → (view setting.cells g.universe x).fleets ≡ []
-      all-are-bare x inside =
-          ap (λ (v : View). v.fleets) (sym (held-seen setting now g x shows (course.same x ∙ inside))) ∙ (held-well now x course.named).fleets
 
       -- what is held now shows every universe whose cells have run
       shows-run : (h : Stamps (game setting)) → ((x : CellId) → holds held x ≡ true → stand_in setting h x ≡ run_before setting.rules limit (stand_in setting g x)) → Shows setting new h
@@ -236,16 +229,15 @@ module _ (kept : Rules) (held now : Held) (moment : ℕ) (course : Courses Agree
         let lead = course.leads setting f can in
         let g = lead.stamps in
         let quiet = all-are-quiet setting g can.rules lead.shows in
-        let bare = all-are-bare setting g can.rules lead.shows in
         let within = first-turn-least now (moment + 1) (names_held now) in
         elim (early 1 limit) [
           | inl some ↦ record {
-            stamps = alone setting S limit moment g lead.can_bring some within quiet bare;
-            shows = shows-run setting g can.rules lead.shows (alone setting S limit moment g lead.can_bring some within quiet bare)
-                (alone-stands setting S limit moment g lead.can_bring some within quiet bare);
-            can_bring = alone-can setting S limit moment g lead.can_bring some within quiet bare;
-            rest = agree-then setting S (brought M S moment (alone setting S limit moment g lead.can_bring some within quiet bare)) (brought M S moment g) (brought M S moment f)
-                (alone-agrees setting S limit moment g lead.can_bring some within quiet bare) lead.rest;
+            stamps = alone setting S limit moment g lead.can_bring some within quiet;
+            shows = shows-run setting g can.rules lead.shows (alone setting S limit moment g lead.can_bring some within quiet)
+                (alone-stands setting S limit moment g lead.can_bring some within quiet);
+            can_bring = alone-can setting S limit moment g lead.can_bring some within quiet;
+            rest = agree-then setting S (brought M S moment (alone setting S limit moment g lead.can_bring some within quiet)) (brought M S moment g) (brought M S moment f)
+                (alone-agrees setting S limit moment g lead.can_bring some within quiet) lead.rest;
           }
           | inr none ↦ record {
             stamps = g;

@@ -23,15 +23,16 @@ use Rattle.closure.specs.declared.places.Places.{Places}
 use Rattle.closure.specs.declared.spot.Spot.{Spot}
 use Rattle.closure.proofs.Sameness.{same_cell_swap}
 use Rattle.closure.proofs.Unions.{has-append}
-use Rattle.happenings.specs.Held.{IsNamed, Puts, ShowsCell, Stand, account_stand, held_at, planet_stand}
+use Rattle.fleet_rec.specs.declared.fleets.Fleets.{Fleets}
+use Rattle.happenings.specs.Held.{IsNamed, Puts, Stand, account_stand, held_at, planet_stand}
 use Rattle.happenings.specs.declared.held.Held.{Held}
 use Rattle.planet_cell.specs.Planet.{AreSame, batch_item_of, item_of, queue_of}
 use Rattle.planet_cell.specs.declared.planet.Planet.{Planet}
-use Rattle.tick_model.specs.Keeping.{lazily_at}
 use Rattle.tick_model.specs.Universe.{Buildings, QueueClass, Researches, Yard, of_account, of_planet}
+use Rattle.tick_model.specs.Views.{View}
 use Rattle.tick_model.proofs.Lists.{cell-is}
 use Rattle.tick_model.specs.declared.rules.Rules.{Rules}
-use Rattle.lazy.specs.Beginning.{HoldsOf, player_of, spot_of}
+use Rattle.lazy.specs.Beginning.{HoldsOf, HoldsWith, ShowsWith, player_of, spot_of}
 use Rattle.lazy.specs.Keeping.{Keeps}
 use Rattle.lazy.specs.declared.universe.LazyUniverse.{LazyUniverse}
 
@@ -55,16 +56,16 @@ put-shown : (P : Stand → Type 0) (b : Bool) (stand : Stand) (found : Option St
 put-shown P true stand found here before = here refl
 put-shown P false stand found here before = before
 
--- a cell that shows the base is held besides
-pub holds-more : (base : Base) (names : List CellId) (old new : Held) (name : CellId) (stand : Stand) → HoldsOf base names old → Puts old new name stand → (IsNamed old → IsNamed new)
-    → ShowsCell (setting_of base) (lazily_at (universe_of base) []) name stand → HoldsOf base (names ++ name ∷ []) new
+-- a cell that shows the base without its fleets is held besides
+holds-more : (base : Base) (names : List CellId) (old new : Held) (name : CellId) (stand : Stand) → HoldsWith base [] names old → Puts old new name stand → (IsNamed old → IsNamed new)
+    → ShowsWith base [] name stand → HoldsWith base [] (names ++ name ∷ []) new
 holds-more base names old new name stand holds puts named shows = record {
   named = named holds.named;
   held = λ cell. ap is_some (puts cell) ∙ put-held (same_cell name cell) stand (held_at old cell) (has names cell) (holds.held cell)
       ∙ ap (λ b. has names cell || b) (same_cell_swap name cell ∙ alone (same_cell cell name)) ∙ sym (has-append names (name ∷ []) cell);
-  shows = λ cell. subst (λ found. IfSome found (ShowsCell (setting_of base) (lazily_at (universe_of base) []) cell)) (sym (puts cell))
-      (put-shown (ShowsCell (setting_of base) (lazily_at (universe_of base) []) cell) (same_cell name cell) stand (held_at old cell)
-      (λ same. subst (λ c. ShowsCell (setting_of base) (lazily_at (universe_of base) []) c stand) (cell-is name cell same) shows) (holds.shows cell));
+  shows = λ cell. subst (λ found. IfSome found (ShowsWith base [] cell)) (sym (puts cell))
+      (put-shown (ShowsWith base [] cell) (same_cell name cell) stand (held_at old cell)
+      (λ same. subst (λ c. ShowsWith base [] c stand) (cell-is name cell same) shows) (holds.shows cell));
 }
   where
     alone : (b : Bool) → b ≡ (b || false)
@@ -82,25 +83,26 @@ planet-queues planet copy same Buildings = λ i. map (item_of (sym same.at i)) (
 planet-queues planet copy same Researches = refl
 planet-queues planet copy same Yard = λ i. map (batch_item_of (sym same.at i)) (sym same.yard i)
 
--- a copy of an account of the base shows it
-account-shows : (base : Base) (account copy : Account) → IsSound base → Contains base.accounts.items account → AreSameAccount account copy
-    → ShowsCell (setting_of base) (lazily_at (universe_of base) []) (AccountId account.player) (account_stand (record { second = base.moment; account = copy }))
-account-shows base account copy sound is equal =
+-- a copy of an account of the base shows it, but for its fleets
+account-shows : (base : Base) (account copy : Account) (fleets : Fleets) → IsSound base → Contains base.accounts.items account → AreSameAccount account copy → fleets ≡ []
+    → ShowsWith base [] (AccountId account.player) (account_stand (record { second = base.moment; account = copy; fleets = fleets }))
+account-shows base account copy fleets sound is equal empty =
     let queue = fun_ext (account-queues account copy equal) in
     record {
       second = refl;
-      seen = (λ i. record { own = of_account (record { techs = sym equal.techs i }); queue = queue i; fleets = []; planets = sym equal.planets i; units = sym equal.units i })
-          ∙ sym (account-shown base account sound is);
+      seen = (λ i. record { own = of_account (record { techs = sym equal.techs i }); queue = queue i; fleets = empty i; planets = sym equal.planets i; units = sym equal.units i })
+          ∙ sym (ap (λ (seen : View). record seen { fleets = [] }) (account-shown base account sound is));
     }
 
 -- so does one of a planet
-planet-shows : (base : Base) (planet copy : Planet) → IsSound base → Contains base.planets.items planet → AreSame planet copy
-    → ShowsCell (setting_of base) (lazily_at (universe_of base) []) (PlanetId planet.at) (planet_stand (record { second = base.moment; planet = copy }))
-planet-shows base planet copy sound is same =
+planet-shows : (base : Base) (planet copy : Planet) (fleets : Fleets) → IsSound base → Contains base.planets.items planet → AreSame planet copy → fleets ≡ []
+    → ShowsWith base [] (PlanetId planet.at) (planet_stand (record { second = base.moment; planet = copy; fleets = fleets }))
+planet-shows base planet copy fleets sound is same empty =
     let queue = fun_ext (planet-queues planet copy same) in
     record {
       second = refl;
-      seen = (λ i. record { own = of_planet (sym same.fields i); queue = queue i; fleets = []; planets = []; units = 0 }) ∙ sym (planet-shown base planet sound is);
+      seen = (λ i. record { own = of_planet (sym same.fields i); queue = queue i; fleets = empty i; planets = []; units = 0 })
+          ∙ sym (ap (λ (seen : View). record seen { fleets = [] }) (planet-shown base planet sound is));
     }
 
 taken-more : {A : Type 0} (f : A → CellId) (front : List CellId) (xs : List A) (i : ℕ) (x : A) → i < length xs → x ≡ get_or xs i x
@@ -109,26 +111,28 @@ taken-more f front xs i x below is =
     append_assoc front (map f (take i xs)) (f x ∷ [])
     ∙ ap (λ rest. front ++ rest) (sym (ap (map f) (take_more xs i x below) ∙ map-append f (take i xs) (get_or xs i x ∷ []) ∙ ap (λ y. map f (take i xs) ++ f y ∷ []) (sym is)))
 
-pub accounts-more : (base : Base) (old new : Held) (i : ℕ) (account copy : Account) → IsSound base → i < length base.accounts.items → account ≡ get_or base.accounts.items i account
-    → AreSameAccount account copy → HoldsOf base (map (λ account. AccountId account.player) (take i base.accounts.items)) old
-    → Puts old new (AccountId copy.player) (account_stand (record { second = base.moment; account = copy })) → (IsNamed old → IsNamed new)
-    → HoldsOf base (map (λ account. AccountId account.player) (take (i + 1) base.accounts.items)) new
-accounts-more base old new i account copy sound below is equal holds puts named =
-    subst (λ names. HoldsOf base names new) (taken-more (λ (account : Account). AccountId account.player) [] base.accounts.items i account below is)
-    (holds-more base (map (λ account. AccountId account.player) (take i base.accounts.items)) old new (AccountId account.player) (account_stand (record { second = base.moment; account = copy })) holds
-    (subst (λ k. Puts old new (AccountId k) (account_stand (record { second = base.moment; account = copy }))) (sym equal.player) puts) named
-    (account-shows base account copy sound (i, below, sym is) equal))
+pub accounts-more : (base : Base) (old new : Held) (i : ℕ) (account copy : Account) (fleets : Fleets) → IsSound base → i < length base.accounts.items → account ≡ get_or base.accounts.items i account
+    → AreSameAccount account copy → fleets ≡ [] → HoldsWith base [] (map (λ account. AccountId account.player) (take i base.accounts.items)) old
+    → Puts old new (AccountId copy.player) (account_stand (record { second = base.moment; account = copy; fleets = fleets })) → (IsNamed old → IsNamed new)
+    → HoldsWith base [] (map (λ account. AccountId account.player) (take (i + 1) base.accounts.items)) new
+accounts-more base old new i account copy fleets sound below is equal empty holds puts named =
+    let stand = account_stand (record { second = base.moment; account = copy; fleets = fleets }) in
+    subst (λ names. HoldsWith base [] names new) (taken-more (λ (account : Account). AccountId account.player) [] base.accounts.items i account below is)
+    (holds-more base (map (λ account. AccountId account.player) (take i base.accounts.items)) old new (AccountId account.player) stand holds
+    (subst (λ k. Puts old new (AccountId k) stand) (sym equal.player) puts) named
+    (account-shows base account copy fleets sound (i, below, sym is) equal empty))
 
-pub planets-more : (base : Base) (old new : Held) (i : ℕ) (planet copy : Planet) → IsSound base → i < length base.planets.items → planet ≡ get_or base.planets.items i planet
-    → AreSame planet copy → HoldsOf base (map (λ account. AccountId account.player) base.accounts.items ++ map (λ planet. PlanetId planet.at) (take i base.planets.items)) old
-    → Puts old new (PlanetId copy.at) (planet_stand (record { second = base.moment; planet = copy })) → (IsNamed old → IsNamed new)
-    → HoldsOf base (map (λ account. AccountId account.player) base.accounts.items ++ map (λ planet. PlanetId planet.at) (take (i + 1) base.planets.items)) new
-planets-more base old new i planet copy sound below is same holds puts named =
+pub planets-more : (base : Base) (old new : Held) (i : ℕ) (planet copy : Planet) (fleets : Fleets) → IsSound base → i < length base.planets.items → planet ≡ get_or base.planets.items i planet
+    → AreSame planet copy → fleets ≡ [] → HoldsWith base [] (map (λ account. AccountId account.player) base.accounts.items ++ map (λ planet. PlanetId planet.at) (take i base.planets.items)) old
+    → Puts old new (PlanetId copy.at) (planet_stand (record { second = base.moment; planet = copy; fleets = fleets })) → (IsNamed old → IsNamed new)
+    → HoldsWith base [] (map (λ account. AccountId account.player) base.accounts.items ++ map (λ planet. PlanetId planet.at) (take (i + 1) base.planets.items)) new
+planets-more base old new i planet copy fleets sound below is same empty holds puts named =
     let front = map (λ (account : Account). AccountId account.player) base.accounts.items in
-    subst (λ names. HoldsOf base names new) (taken-more (λ (planet : Planet). PlanetId planet.at) front base.planets.items i planet below is)
-    (holds-more base (front ++ map (λ planet. PlanetId planet.at) (take i base.planets.items)) old new (PlanetId planet.at) (planet_stand (record { second = base.moment; planet = copy })) holds
-    (subst (λ k. Puts old new (PlanetId k) (planet_stand (record { second = base.moment; planet = copy }))) (sym same.at) puts) named
-    (planet-shows base planet copy sound (i, below, sym is) same))
+    let stand = planet_stand (record { second = base.moment; planet = copy; fleets = fleets }) in
+    subst (λ names. HoldsWith base [] names new) (taken-more (λ (planet : Planet). PlanetId planet.at) front base.planets.items i planet below is)
+    (holds-more base (front ++ map (λ planet. PlanetId planet.at) (take i base.planets.items)) old new (PlanetId planet.at) stand holds
+    (subst (λ k. Puts old new (PlanetId k) stand) (sym same.at) puts) named
+    (planet-shows base planet copy fleets sound (i, below, sym is) same empty))
 
 -- rules are the same if seed and speed are
 rules-same : (one other : Rules) → one.seed ≡ other.seed → one.speed ≡ other.speed → one ≡ other

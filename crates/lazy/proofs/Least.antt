@@ -1,12 +1,13 @@
 -- The cells that are needed by what is held are those that an entry touches.
 use Rattle.std.proofs.Common.{◌≡◌, ℕ, ◌<◌, Bool, true, false, cond, List, [], ◌∷◌, Option, None, Some, refl, ap, ◌∙◌, sym, subst, arith, inl, inr}
-use Rattle.std.specs.Prelude.{IfOk, IfSome, IsSome, is_some, option_map, ◌||◌}
+use Rattle.std.specs.Prelude.{IfOk, IfSome, IsSome, is_some, option_map, ◌||◌, ◌&&◌}
 use Rattle.std.specs.List.{Contains}
 use Rattle.std.specs.declared.result.Result.{Result}
 use Rattle.std.specs.declared.result.Result.TheVariants.{Ok, Err}
 use Rattle.std.proofs.lemmas.Map.Views.{list_any-from_Contains}
 use Rattle.base_ids.specs.Cells.{same_cell}
 use Rattle.base_ids.specs.declared.cell_id.CellId.{CellId}
+use Rattle.base_ids.specs.declared.cell_id.CellId.TheVariants.{Account}
 use Rattle.base_ids.specs.declared.player.Player.{Player}
 use Rattle.request_text.specs.declared.entry.Entry.{Entry}
 use Rattle.request_text.specs.declared.request.Request.{Request}
@@ -24,7 +25,7 @@ use Rattle.happenings.specs.Sights.{sees_held}
 use Rattle.happenings.specs.declared.held.Held.{Held}
 use Rattle.tick_model.specs.Game.{brings, game}
 use Rattle.tick_model.specs.Keeping.{lazily_at, touched_at}
-use Rattle.tick_model.specs.Requests.{asked, is_listed}
+use Rattle.tick_model.specs.Requests.{asked, is_listed, names}
 use Rattle.tick_model.specs.Rules.{KeepsRules}
 use Rattle.tick_model.specs.Universe.{Setting, Universe}
 use Rattle.tick_model.specs.Views.{View, view}
@@ -34,12 +35,8 @@ use Rattle.tick_model.proofs.Keeping.{keeps-history}
 use Rattle.tick_model.proofs.Lists.{cell-is, cell-itself, cell-turned, fails}
 use Rattle.tick_model.proofs.Requesting.{brought_listed}
 use Rattle.lazy.specs.Keeping.{Keeps}
-use Rattle.lazy.specs.Touching.{AreTouched}
+use Rattle.lazy.specs.Touching.{AreTouched, AskedBy}
 use Rattle.lazy.specs.declared.universe.LazyUniverse.{LazyUniverse}
-
--- the cells that a request asks for, by a directory
-abbrev pub AskedBy : Places → Player → Request → List CellId → Type 0
-AskedBy places player req wanted = (seen : CellId → View) (cell : CellId) → has wanted cell ≡ asked (cells_of places) seen player req cell
 
 -- what is in a directory is listed
 pub in-listed : (cells : List CellId) (cell : CellId) → Contains cells cell → is_listed cells cell ≡ true
@@ -64,12 +61,12 @@ only-seen setting f cell None shows = tt
 only-seen setting f cell (Some stand) shows = shows.seen
 
 module _ (setting : Setting) (places : Places) (held : Held) (f : Stamps (game setting)) (player : Player) (req : Request) (moment : ℕ) (wanted : List CellId)
-    (directory : setting.cells ≡ cells_of places) (shows : Shows setting held f) (asks : AskedBy places player req wanted) where
+    (directory : setting.cells ≡ cells_of places) (shows : Shows setting held f) (asks : AskedBy (sees_held held) places player req wanted) where
   seen-is : (cell : CellId) (seen : View) → sees_held held cell ≡ Some seen → seen ≡ view setting.cells f.universe cell
   seen-is cell seen is = view-at seen (held_at held cell) (view setting.cells f.universe cell) (only-seen setting f cell (held_at held cell) (shows cell)) is
 
   asked-is : (cell : CellId) → has wanted cell ≡ asked setting.cells (view setting.cells f.universe) player req cell
-  asked-is cell = asks (view setting.cells f.universe) cell ∙ ap (λ cells. asked cells (view setting.cells f.universe) player req cell) (sym directory)
+  asked-is cell = asks (view setting.cells f.universe) (λ other seen is. sym (seen-is other seen is)) cell ∙ ap (λ cells. asked cells (view setting.cells f.universe) player req cell) (sym directory)
 
   -- what is needed of the cells that are held is the least closed set of their universe
   pub least-is : (entry : Entry) (names : List CellId) → entry.player ≡ player → entry.req ≡ req → IsLeastClosed (sees_held held) wanted moment names
@@ -111,7 +108,7 @@ same-least setting v moment entry S R one other cell =
 
 -- what is needed is what an entry touches
 pub needed-touched : (base : Universe) (history : List Entry) (lazy : LazyUniverse) (entry : Entry) (player : Player) (req : Request) (moment : ℕ) (wanted names : List CellId)
-    → Keeps base history lazy → AskedBy lazy.places player req wanted → IsLeastClosed (sees_held lazy.cells) wanted moment names
+    → Keeps base history lazy → AskedBy (sees_held lazy.cells) lazy.places player req wanted → IsLeastClosed (sees_held lazy.cells) wanted moment names
     → entry.player ≡ player → entry.req ≡ req → entry.moment ≡ moment → (cell : CellId) → has names cell ≡ touched_at base history entry cell
 needed-touched base history lazy entry player req moment wanted names keeps asks least by of at cell =
     let f = lazily_at base history in
@@ -123,7 +120,7 @@ needed-touched base history lazy entry player req moment wanted names keeps asks
 
 -- of a universe that keeps a history no cell is missing
 pub all-held : (base : Universe) (history : List Entry) (lazy : LazyUniverse) (player : Player) (req : Request) (moment : ℕ) (wanted names : List CellId)
-    → Keeps base history lazy → AskedBy lazy.places player req wanted → AreMissing (sees_held lazy.cells) wanted moment names → ⊥
+    → Keeps base history lazy → AskedBy (sees_held lazy.cells) lazy.places player req wanted → AreMissing (sees_held lazy.cells) wanted moment names → ⊥
 all-held base history lazy player req moment wanted names keeps asks missing =
     none-missing base.setting lazy.places lazy.cells (lazily_at base history) player req moment wanted keeps.directory keeps.shows asks names
     (keeps-history base history keeps.founded keeps.legal).fine keeps.held missing
@@ -134,7 +131,7 @@ picked-held true (Some stand) held = refl
 picked-held false found held = refl
 
 -- copies of them are copies of what an entry touches
-pub picked-touched : (lazy : LazyUniverse) (player : Player) (req : Request) (moment : ℕ) (wanted names : List CellId) (picked : Held) → AskedBy lazy.places player req wanted
+pub picked-touched : (lazy : LazyUniverse) (player : Player) (req : Request) (moment : ℕ) (wanted names : List CellId) (picked : Held) → AskedBy (sees_held lazy.cells) lazy.places player req wanted
     → IsLeastClosed (sees_held lazy.cells) wanted moment names → Picks lazy.cells names picked → IsNamed picked → AreTouched lazy player req moment picked
 picked-touched lazy player req moment wanted names picked asks least picks named =
     let held : (cell : CellId) → holds picked cell ≡ has names cell = λ cell. ap is_some (picks cell) ∙ picked-held (has names cell) (held_at lazy.cells cell) (least.held cell) in
@@ -143,6 +140,19 @@ picked-touched lazy player req moment wanted names picked asks least picks named
       copies = λ cell. picks cell ∙ ap (λ b. cond b (held_at lazy.cells cell) None) (sym (held cell));
       touched = λ base history entry keeps by of at cell. held cell ∙ needed-touched base history lazy entry player req moment wanted names keeps asks least by of at cell;
     }
+
+unseen : (found : Option Stand) → option_map (λ (s : Stand). s.seen) found ≡ None → is_some found ≡ false
+unseen None is = refl
+unseen (Some stand) is = absurd (cc is)
+
+-- a player whose account isn't held is none, and asks for nothing
+pub nothing-asked : (base : Universe) (history : List Entry) (lazy : LazyUniverse) (player : Player) (req : Request) → Keeps base history lazy
+    → sees_held lazy.cells (Account player) ≡ None → AskedBy (sees_held lazy.cells) lazy.places player req []
+nothing-asked base history lazy player req keeps missing =
+    let unlisted : is_listed (cells_of lazy.places) (Account player) ≡ false =
+    ap (λ cells. is_listed cells (Account player)) (sym keeps.directory) ∙ sym (keeps.held (Account player)) ∙ unseen (held_at lazy.cells (Account player)) missing in
+    λ seen shows cell.
+    sym (ap (λ b. (b && is_listed (cells_of lazy.places) cell) && (same_cell (Account player) cell || names seen player req cell)) unlisted)
 
 pub if_both : {T E : Type 0} (r : Result T E) (P Q R : T → Type 0) → ((x : T) → P x → Q x → R x) → IfOk r P → IfOk r Q → IfOk r R
 if_both (Ok x) P Q R both first second = both x first second

@@ -1,9 +1,13 @@
+pub mod Taken
+pub mod Finishing
 pub mod Stepping
+pub mod Parting
 pub mod Continuing
 pub mod Least
 pub mod Preparing
 pub mod Filling
 pub mod Texts
+pub mod Links
 pub mod Coursing
 pub mod Waiting
 pub mod Outcoming
@@ -11,7 +15,6 @@ pub mod Counting
 pub mod Showing
 pub mod Counted
 pub mod Answering
-pub mod Ending
 pub mod Samples
 pub mod Turns
 pub mod Units

@@ -1,5 +1,5 @@
 -- The base of the tests is sound, and a universe that is asked again and again keeps some history.
-use Rattle.std.proofs.Common.{◌≡◌, ℕ, ◌+◌, ◌≤◌, true, false, List, [], ◌∷◌, ◌++◌, length, map, sum_by, refl, ap, ◌∙◌, sym, subst, arith}
+use Rattle.std.proofs.Common.{◌≡◌, ℕ, ◌+◌, ◌<◌, ◌≤◌, true, false, List, [], ◌∷◌, ◌++◌, length, map, sum_by, refl, ap, ◌∙◌, sym, subst, arith}
 use Rattle.std.proofs.lemmas.List.Elements.{All-cons}
 use Rattle.std.proofs.lemmas.List.Kept.{AllPairs-cons}
 use Rattle.std.specs.Prelude.{All, AllPairs, sum}
@@ -7,7 +7,8 @@ use Rattle.std.specs.List.{Contains}
 use Rattle.account_cell.specs.Account.{research_item, research_of}
 use Rattle.account_cell.specs.declared.account.Account.{Account}
 use Rattle.base_bytes.specs.Base.{all_items}
-use Rattle.base_bytes.specs.Sound.{IsSound, RunsAfter, planets_owned, units_counted}
+use Rattle.base_bytes.specs.Sound.{ArriveTogether, HasSlots, IsSound, IsSoundFleet, RunsAfter, outbound_in, planets_owned, units_counted, units_owned}
+use Rattle.base_bytes.specs.declared.base.TheConstants.{MOST_IN_GROUP}
 use Rattle.base_bytes.specs.declared.base.Base.{Base}
 use Rattle.base_bytes.proofs.Owned.{player-same}
 use Rattle.base_ids.specs.Order.{coord_before, player_before}
@@ -18,7 +19,7 @@ use Rattle.planet_cell.specs.declared.planet.Planet.{Planet}
 use Rattle.reply_text.specs.declared.reply.Reply.{Reply}
 use Rattle.request_text.specs.declared.request.Request.{Request}
 use Rattle.tick_model.specs.Rules.{same_order}
-use Rattle.tick_model.specs.Views.{units_left}
+use Rattle.tick_model.specs.Views.{ships_of, units_left}
 use Rattle.lazy.specs.Keeping.{Asks, KeepsSome}
 use Rattle.lazy.specs.declared.universe.LazyUniverse.{LazyUniverse}
 
@@ -51,11 +52,11 @@ pub record IsIdle (planet : Planet) : Type 0 where
   pub buildings : planet.buildings.items ≡ []
   pub yard : planet.yard.items ≡ []
 
--- one account that researches nothing, with two idle planets
-pub sound_two : (base : Base) (account : Account) (one two : Planet) → base.accounts.items ≡ account ∷ [] → base.planets.items ≡ one ∷ two ∷ []
+-- one account that researches nothing, with two idle planets and no fleet
+pub sound_two : (base : Base) (account : Account) (one two : Planet) → base.fleets ≡ [] → base.accounts.items ≡ account ∷ [] → base.planets.items ≡ one ∷ two ∷ []
     → account.planets.items ≡ one.at ∷ two.at ∷ [] → account.units ≡ 0 → account.research.items ≡ [] → one.owner ≡ account.player → two.owner ≡ account.player
     → coord_before one.at two.at ≡ true → IsIdle one → IsIdle two → IsSound base
-sound_two base account one two accounts planets listed counted research first second rises idle idle_too =
+sound_two base account one two flown accounts planets listed counted research first second rises idle idle_too =
     let players = λ (p : Planet) (same : p.owner ≡ account.player).
     subst (λ (xs : List Account). Contains (map (λ (a : Account). a.player) xs) p.owner) (sym accounts) (0, (omega arith), sym same) in
     let owned : planets_owned account.player base.planets.items ≡ one ∷ two ∷ [] =
@@ -72,8 +73,9 @@ sound_two base account one two accounts planets listed counted research first se
       kinds = two-all (λ p. length p.units ≡ length UNIT_KINDS) base.planets.items one two planets idle.kinds idle_too.kinds;
       listed = one-all (λ a. a.planets.items ≡ map (λ (p : Planet). p.at) (planets_owned a.player base.planets.items)) base.accounts.items account accounts
           (listed ∙ sym (ap (map (λ (p : Planet). p.at)) owned));
-      counted = one-all (λ a. a.units ≡ sum_by units_counted (planets_owned a.player base.planets.items)) base.accounts.items account accounts
-          (counted ∙ sym (ap (sum_by units_counted) owned ∙ (λ i. (0 + uncounted one idle.units idle.yard i) + uncounted two idle_too.units idle_too.yard i)));
+      counted = one-all (λ a. a.units ≡ units_owned a.player base.planets.items base.fleets) base.accounts.items account accounts
+          (counted ∙ sym ((λ i. sum_by units_counted (owned i) + sum_by (ships_of account.player) (flown i))
+          ∙ (λ i. ((0 + uncounted one idle.units idle.yard i) + uncounted two idle_too.units idle_too.yard i) + 0)));
       at_home = one-all (λ a. All (λ item. Contains a.planets.items item.at) a.research.items) base.accounts.items account accounts
           (none-all (λ item. Contains account.planets.items item.at) account.research.items research);
       built = two-all (λ p. RunsAfter base.moment (buildings_of p)) base.planets.items one two planets (builds one idle.buildings) (builds two idle_too.buildings);
@@ -82,6 +84,11 @@ sound_two base account one two accounts planets listed counted research first se
           (subst (λ items. RunsAfter base.moment (map (research_item account.player) items)) (sym research) tt);
       drawn = none-all (λ item. (1 ≤ item.number) × (item.number ≤ base.number)) (all_items base.accounts.items base.planets.items) empty;
       distinct = none-pairs (λ a b. same_order a b ≡ false) (all_items base.accounts.items base.planets.items) empty;
+      fleets_rise = none-pairs (λ first second. first.number < second.number) base.fleets flown;
+      flying = none-all (IsSoundFleet base) base.fleets flown;
+      together = none-pairs ArriveTogether base.fleets flown;
+      few = λ group. subst (λ fleets. length (outbound_in group fleets) ≤ MOST_IN_GROUP) (sym flown) (omega arith);
+      slots = one-all (HasSlots base.fleets) base.accounts.items account accounts (subst (λ fleets. HasSlots fleets account) (sym flown) (omega arith));
     }
 
 -- a universe that kept some history keeps some after it was asked

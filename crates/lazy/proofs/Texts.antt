@@ -55,14 +55,6 @@ account-there setting held old new player cell named found told =
     let stand : held_at held (Account player) ≡ Some (account_stand cell) = ap (option_map account_stand) found in
     told ∙ (λ i. old ++ stand_text setting (Account (own i)) (sym stand i))
 
--- and so has a planet
-pub planet-there : (setting : Setting) (rules : Rules) (cell : PlanetCell) (old middle new lines : List ℕ) → setting.rules ≡ rules → middle ≡ old ++ cell_line (Planet cell.planet.at) cell.second
-    → lines ≡ planet_text rules.speed cell.planet.at (fields_of cell.planet) (queue_of cell.planet) → new ≡ middle ++ lines
-    → new ≡ old ++ stand_text setting (Planet cell.planet.at) (Some (planet_stand cell))
-planet-there setting rules cell old middle new lines same named told more =
-    more ∙ (λ i. named i ++ told i) ∙ append_assoc old (cell_line (Planet cell.planet.at) cell.second) (planet_text rules.speed cell.planet.at (fields_of cell.planet) (queue_of cell.planet))
-    ∙ (λ i. old ++ (cell_line (Planet cell.planet.at) cell.second ++ planet_text (sym same i).speed cell.planet.at (fields_of cell.planet) (queue_of cell.planet)))
-
 -- an account that isn't held has none
 pub account-missing : (setting : Setting) (held : Held) (old new : List ℕ) (player : Player) → get player_order held.accounts player ≡ None
     → new ≡ old → new ≡ old ++ stand_text setting (Account player) (held_at held (Account player))

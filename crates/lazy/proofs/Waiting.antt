@@ -1,89 +1,70 @@
--- The events that the queues of cells which are held still bring, of which each event takes one away.
-use Rattle.std.proofs.Common.{◌≡◌, ℕ, ◌+◌, ◌-◌, ◌<◌, ◌≤◌, Bool, true, false, cond, List, [], ◌∷◌, ◌||◌, ◌&&◌, refl, ap, ◌∙◌, sym, subst, arith, inl, inr, Option, Some, None}
+-- The events that cells which are held still bring, of which each event takes one away.
+use Rattle.std.proofs.Common.{◌≡◌, ℕ, ◌+◌, ◌-◌, ◌<◌, ◌≤◌, Bool, true, false, cond, List, [], ◌∷◌, ◌||◌, ◌&&◌, filter, sum_by, refl, ap, ◌∙◌, sym, subst, arith, inl, inr, Option, Some, None}
+use Rattle.std.proofs.lemmas.List.Sums.{sum_by-cons}
+use Rattle.std.specs.List.{filter_map}
 use Rattle.std.specs.Prelude.{is_some, option_map}
 use Rattle.base_ids.specs.Cells.{same_cell}
 use Rattle.base_ids.specs.declared.cell_id.CellId.{CellId}
+use Rattle.base_ids.specs.declared.cell_id.CellId.TheVariants.{Planet}
 use Rattle.closure.specs.Lists.{has}
 use Rattle.laziness.proofs.Bringing.{never, test}
 use Rattle.laziness.specs.Stamps.{Stamps, bring_to, event_acts}
-use Rattle.happenings.specs.Applying.{CanHappen, Happens, stand_after}
+use Rattle.happenings.specs.Applying.{Happens, stand_after}
+use Rattle.happenings.specs.Coming.{CanHappen}
 use Rattle.happenings.specs.Held.{Shows, Stand, held_at, holds}
 use Rattle.happenings.specs.Naming.{held_named}
-use Rattle.happenings.specs.Queues.{class_of, event_of, home_of, items_held, seen_held, seen_of}
+use Rattle.happenings.specs.Queues.{seen_held, seen_of}
 use Rattle.happenings.specs.Sights.{names_held}
-use Rattle.happenings.specs.declared.due.Due.{Due}
+use Rattle.happenings.specs.declared.happening.Happening.{Happening}
 use Rattle.happenings.specs.declared.held.Held.{Held}
-use Rattle.happenings.proofs.Acting.{held-seen, owed-there, queue-inside}
-use Rattle.tick_model.specs.Events.{Event, effect, footprint, item_due}
-use Rattle.tick_model.specs.Game.{events_left, game}
-use Rattle.tick_model.specs.Rules.{KeepsRules}
-use Rattle.tick_model.specs.Universe.{Buildings, Researches, Yard, Item, Own, QueueClass, Setting, State, of_account, of_nothing, of_planet, same_class}
-use Rattle.tick_model.specs.Views.{View, nothing_seen, queue_in}
+use Rattle.happenings.proofs.Acting.{held-seen}
+use Rattle.reply_text.specs.declared.units.Units.{Units}
+use Rattle.tick_model.specs.Events.{Event, Owes, effect, footprint, home, item_due, lands, second_of}
+use Rattle.tick_model.specs.Flights.{back_at, landing, turned, turns}
+use Rattle.tick_model.specs.Game.{events_left, game, landings_left}
+use Rattle.tick_model.specs.Rules.{IsIn, KeepsRules}
+use Rattle.tick_model.specs.Universe.{Buildings, Researches, Yard, Fleet, Item, Own, QueueClass, Setting, State, of_account, of_nothing, of_planet, same_class}
+use Rattle.tick_model.specs.Views.{View, belongs, nothing_seen, queue_in, view}
 use Rattle.tick_model.specs.declared.rules.Rules.{Rules}
-use Rattle.tick_model.proofs.Effects.{StandsBy, effect-is, event-ends, other-queue, queue-after}
-use Rattle.tick_model.proofs.Gains.{advance-keeps}
-use Rattle.tick_model.proofs.Lists.{and-is, cell-is, class-is}
+use Rattle.tick_model.proofs.Effects.{StandsBy, effect-is, event-ends, other-queue, queue-after, seen_of as seen_by}
+use Rattle.tick_model.proofs.Gains.{advance-keeps, gains-owe, view-advanced}
+use Rattle.tick_model.proofs.Landings.{back-out, came_landed, flies-in, landing-belongs, landing-is, sum-changed, turned-belongs, weight}
+use Rattle.tick_model.proofs.Lists.{and-is, cell-is, class-is, fails}
+use Rattle.tick_model.proofs.Writes.{became_at}
 use Rattle.lazy.specs.Planning.{HoldsSame}
 use Rattle.lazy.specs.Running.{YardsRun, first_turn, is_running, ran, run_before, run_until}
 use Rattle.lazy.proofs.Units.{ticks-no-more}
 
--- the events that the queues of a cell still bring
+-- how often the fleets of a cell can still land, and the events that its queues still bring
 abbrev pub waiting : View → ℕ
-waiting seen = events_left (seen.queue Buildings) + (events_left (seen.queue Researches) + events_left (seen.queue Yard))
+waiting seen = landings_left seen.fleets + (events_left (seen.queue Buildings) + (events_left (seen.queue Researches) + events_left (seen.queue Yard)))
 
 -- those of some cells
 abbrev pub waiting_in : Held → List CellId → ℕ
 waiting_in held [] = 0
 waiting_in held (cell ∷ cells) = waiting (seen_held held cell) + waiting_in held cells
 
--- no queue brings more events, and one brings fewer
-record AreFewer (old new : Held) (name : CellId) (class : QueueClass) : Type 0 where
-  other : (cell : CellId) (kind : QueueClass) → events_left ((seen_held new cell).queue kind) ≤ events_left ((seen_held old cell).queue kind)
-  one : events_left ((seen_held new name).queue class) < events_left ((seen_held old name).queue class)
+-- no cell brings more events, and one brings fewer
+record AreFewer (old new : Held) (name : CellId) : Type 0 where
+  other : (cell : CellId) → waiting (seen_held new cell) ≤ waiting (seen_held old cell)
+  one : waiting (seen_held new name) < waiting (seen_held old name)
 
-module _ (old new : Held) (name : CellId) (class : QueueClass) (fewer : AreFewer old new name class) where
-  no-more-here : (cell : CellId) → waiting (seen_held new cell) ≤ waiting (seen_held old cell)
-  no-more-here cell =
-      let buildings = fewer.other cell Buildings in
-      let researches = fewer.other cell Researches in
-      let yard = fewer.other cell Yard in
-      omega (arith, buildings, researches, yard)
-
-  fewer-here : (kind : QueueClass) → class ≡ kind → waiting (seen_held new name) < waiting (seen_held old name)
-  fewer-here Buildings is =
-      let one : events_left ((seen_held new name).queue Buildings) < events_left ((seen_held old name).queue Buildings) =
-      subst (λ c. events_left ((seen_held new name).queue c) < events_left ((seen_held old name).queue c)) is fewer.one in
-      let researches = fewer.other name Researches in
-      let yard = fewer.other name Yard in
-      omega (arith, one, researches, yard)
-  fewer-here Researches is =
-      let one : events_left ((seen_held new name).queue Researches) < events_left ((seen_held old name).queue Researches) =
-      subst (λ c. events_left ((seen_held new name).queue c) < events_left ((seen_held old name).queue c)) is fewer.one in
-      let buildings = fewer.other name Buildings in
-      let yard = fewer.other name Yard in
-      omega (arith, one, buildings, yard)
-  fewer-here Yard is =
-      let one : events_left ((seen_held new name).queue Yard) < events_left ((seen_held old name).queue Yard) =
-      subst (λ c. events_left ((seen_held new name).queue c) < events_left ((seen_held old name).queue c)) is fewer.one in
-      let buildings = fewer.other name Buildings in
-      let researches = fewer.other name Researches in
-      omega (arith, one, buildings, researches)
-
+module _ (old new : Held) (name : CellId) (fewer : AreFewer old new name) where
   no-more : (cells : List CellId) → waiting_in new cells ≤ waiting_in old cells
   no-more [] = omega arith
   no-more (cell ∷ cells) =
-      let here = no-more-here cell in
+      let here = fewer.other cell in
       let rest = no-more cells in
       omega (arith, here, rest)
 
   falls : (cells : List CellId) → has cells name ≡ true → waiting_in new cells < waiting_in old cells
   falls [] there = never false there refl
   falls (cell ∷ cells) there =
-      let here = no-more-here cell in
+      let here = fewer.other cell in
       let more = no-more cells in
       elim (test (same_cell name cell)) [
         | inl same ↦
-            (let one : waiting (seen_held new cell) < waiting (seen_held old cell) = subst (λ c. waiting (seen_held new c) < waiting (seen_held old c)) (cell-is name cell same) (fewer-here class refl) in
+            (let one : waiting (seen_held new cell) < waiting (seen_held old cell) = subst (λ c. waiting (seen_held new c) < waiting (seen_held old c)) (cell-is name cell same) fewer.one in
             omega (arith, one, more))
         | inr other ↦
             (let among : has cells name ≡ true = ap (λ b. b || has cells name) (sym other) ∙ there in
@@ -117,82 +98,216 @@ runs_no_more rules moment old new runs (cell ∷ cells) =
     let rest = runs_no_more rules moment old new runs cells in
     omega (arith, here, rest)
 
--- An event leaves its queue with fewer, and the others as they are.
-module _ (setting : Setting) (u : State) (class : QueueClass) (item : Item) (later : List Item) (fine : KeepsRules setting u) (stands : StandsBy u class item later) where
-  event : Event
-  event = item_due class item later
+-- What an event leaves of what a cell brings.
+abbrev waiting_at : Setting → State → CellId → ℕ
+waiting_at setting u cell = waiting (view setting.cells u cell)
 
-  queue-falls : events_left (queue_in (effect setting (item_due class item later) u).items item.cell class) < events_left (queue_in u.items item.cell class)
+-- The event of an item leaves its queue with fewer, and the others and the fleets as they are.
+module _ (setting : Setting) (u : State) (class : QueueClass) (item : Item) (later : List Item) (fine : KeepsRules setting u) (stands : StandsBy u class item later) where
+  abbrev then : State
+  then = effect setting (item_due class item later) u
+
+  queue-falls : events_left (queue_in then.items item.cell class) < events_left (queue_in u.items item.cell class)
   queue-falls =
       let less = (event-ends setting u class item later fine stands).falls in
       let new = ap (λ (s : State). events_left (queue_in s.items item.cell class)) (effect-is setting class item later u) ∙ ap events_left (queue-after setting u class item later fine stands) in
       let old = ap events_left stands in
       omega (arith, less, new, old)
 
-  queue-less : (cell : CellId) (kind : QueueClass) → events_left (queue_in (effect setting (item_due class item later) u).items cell kind) ≤ events_left (queue_in u.items cell kind)
+  queue-less : (cell : CellId) (kind : QueueClass) → events_left (queue_in then.items cell kind) ≤ events_left (queue_in u.items cell kind)
   queue-less cell kind =
       elim (test (same_cell item.cell cell && same_class class kind)) [
         | inl same ↦
             (let both = and-is (same_cell item.cell cell) (same_class class kind) same in
-            let less : events_left (queue_in (effect setting (item_due class item later) u).items cell kind) < events_left (queue_in u.items cell kind) =
-            subst (λ k. events_left (queue_in (effect setting (item_due class item later) u).items cell k) < events_left (queue_in u.items cell k)) (class-is class kind both.1)
-            (subst (λ c. events_left (queue_in (effect setting (item_due class item later) u).items c class) < events_left (queue_in u.items c class)) (cell-is item.cell cell both.0) queue-falls) in
+            let less : events_left (queue_in then.items cell kind) < events_left (queue_in u.items cell kind) =
+            subst (λ k. events_left (queue_in then.items cell k) < events_left (queue_in u.items cell k)) (class-is class kind both.1)
+            (subst (λ c. events_left (queue_in then.items c class) < events_left (queue_in u.items c class)) (cell-is item.cell cell both.0) queue-falls) in
             omega (arith, less))
         | inr apart ↦
             (let stays = ap (λ (s : State). events_left (queue_in s.items cell kind)) (effect-is setting class item later u) ∙ ap events_left (other-queue setting u class item later cell kind fine stands apart) in
             omega (arith, stays))
       ]
 
+  fleets-stay : then.fleets ≡ u.fleets
+  fleets-stay = ap (λ (s : State). s.fleets) (effect-is setting class item later u)
+
+  item-less : (cell : CellId) → waiting_at setting then cell ≤ waiting_at setting u cell
+  item-less cell =
+      let fleets = ap (λ (fs : List Fleet). landings_left (filter (belongs cell) fs)) fleets-stay in
+      let buildings = queue-less cell Buildings in
+      let researches = queue-less cell Researches in
+      let yard = queue-less cell Yard in
+      omega (arith, fleets, buildings, researches, yard)
+
+  item-falls : (kind : QueueClass) → class ≡ kind → waiting_at setting then item.cell < waiting_at setting u item.cell
+  item-falls kind is =
+      let cell = item.cell in
+      let fleets = ap (λ (fs : List Fleet). landings_left (filter (belongs cell) fs)) fleets-stay in
+      let one : events_left (queue_in then.items cell kind) < events_left (queue_in u.items cell kind) =
+      subst (λ c. events_left (queue_in then.items cell c) < events_left (queue_in u.items cell c)) is queue-falls in
+      let buildings = queue-less cell Buildings in
+      let researches = queue-less cell Researches in
+      let yard = queue-less cell Yard in
+      sum-falls kind (landings_left (filter (belongs cell) then.fleets)) (landings_left (filter (belongs cell) u.fleets)) (λ k. events_left (queue_in then.items cell k))
+      (λ k. events_left (queue_in u.items cell k)) fleets (queue-less cell) one
+    where
+      sum-falls : (kind : QueueClass) (flown flies : ℕ) (new old : QueueClass → ℕ) → flown ≡ flies → ((k : QueueClass) → new k ≤ old k) → new kind < old kind
+          → flown + (new Buildings + (new Researches + new Yard)) < flies + (old Buildings + (old Researches + old Yard))
+      sum-falls Buildings flown flies new old same less one = let two = less Researches in let three = less Yard in omega (arith, same, one, two, three)
+      sum-falls Researches flown flies new old same less one = let two = less Buildings in let three = less Yard in omega (arith, same, one, two, three)
+      sum-falls Yard flown flies new old same less one = let two = less Buildings in let three = less Researches in omega (arith, same, one, two, three)
+
+-- How often a fleet can still land, counted by a cell to which it belongs.
+abbrev landings_of : Fleet → ℕ
+landings_of fleet = cond fleet.outbound 2 1
+
+abbrev counted_by : CellId → Fleet → ℕ
+counted_by cell fleet = cond (belongs cell fleet) (landings_of fleet) 0
+
+sum-filtered : (p : Fleet → Bool) (w : Fleet → ℕ) (fleets : List Fleet) → sum_by w (filter p fleets) ≡ sum_by (λ fleet. cond (p fleet) (w fleet) 0) fleets
+sum-filtered p w [] = refl
+sum-filtered p w (fleet ∷ fleets) =
+    let part = λ (f : Fleet). cond (p f) (w f) 0 in
+    first-filtered (p fleet) (sum-filtered p w fleets) ∙ sym (sum_by-cons part fleet fleets)
+  where
+    first-filtered : (b : Bool) → sum_by w (filter p fleets) ≡ sum_by (λ f. cond (p f) (w f) 0) fleets
+        → sum_by w (cond b (fleet ∷ filter p fleets) (filter p fleets)) ≡ cond b (w fleet) 0 + sum_by (λ f. cond (p f) (w f) 0) fleets
+    first-filtered true rest = sum_by-cons w fleet (filter p fleets) ∙ ap (λ n. w fleet + n) rest
+    first-filtered false rest = omega (arith, rest)
+
+at-most-one : (b : Bool) → cond b 1 0 < 2
+at-most-one true = omega arith
+at-most-one false = omega arith
+
+lands-again : (b : Bool) → 1 ≤ cond b 2 1
+lands-again true = omega arith
+lands-again false = omega arith
+
+-- once it has landed, it can do so less often
+counted-falls : (cell : CellId) (fleet : Fleet) (back : Option Units) → ((cargo : Units) → back ≡ Some cargo → fleet.outbound ≡ true) → belongs cell fleet ≡ true
+    → weight (counted_by cell) (turns back fleet) < counted_by cell fleet
+counted-falls cell fleet None out has =
+    let is : counted_by cell fleet ≡ landings_of fleet = ap (λ b. cond b (landings_of fleet) 0) has in
+    let some = lands-again fleet.outbound in
+    omega (arith, is, some)
+counted-falls cell fleet (Some cargo) out has =
+    let is : counted_by cell fleet ≡ 2 = ap (λ b. cond b (landings_of fleet) 0) has ∙ ap (λ b. cond b 2 1) (out cargo refl) in
+    let one = at-most-one (belongs cell (turned fleet (back_at fleet) cargo)) in
+    omega (arith, is, one)
+
+counted-none : (cell : CellId) (fleet : Fleet) (back : Option Units) → belongs cell fleet ≡ false → weight (counted_by cell) (turns back fleet) ≡ 0
+counted-none cell fleet None apart = refl
+counted-none cell fleet (Some cargo) apart =
+    ap (λ b. cond b 1 0) (fails (belongs cell (turned fleet (back_at fleet) cargo)) (λ is. never (belongs cell fleet) (turned-belongs cell fleet (back_at fleet) cargo is) apart))
+
+-- A landing leaves the cells of its fleet with fewer.
+module _ (setting : Setting) (u : State) (fleet : Fleet) (fine : KeepsRules setting u) (flies : IsIn fleet u.fleets) where
+  abbrev landed_then : State
+  landed_then = effect setting (lands fleet) u
+
+  abbrev back : Option Units
+  back = (came_landed fleet (seen_by setting (lands fleet) u)).back
+
+  abbrev left_at : State → CellId → ℕ
+  left_at s cell = landings_left (filter (belongs cell) s.fleets)
+
+  landings-changed : (cell : CellId) → left_at landed_then cell + counted_by cell fleet ≡ left_at u cell + weight (counted_by cell) (turns back fleet)
+  landings-changed cell =
+      ap (λ s. left_at s cell + counted_by cell fleet) (landing-is setting fleet u)
+      ∙ ap (λ n. n + counted_by cell fleet) (sum-filtered (belongs cell) landings_of (filter_map (became_at fleet.number (turns back)) u.fleets))
+      ∙ sum-changed (counted_by cell) fleet (turns back) u.fleets fine.apart flies
+      ∙ ap (λ n. n + weight (counted_by cell) (turns back fleet)) (sym (sum-filtered (belongs cell) landings_of u.fleets))
+
+  queues-stay : (cell : CellId) (class : QueueClass) → events_left (queue_in landed_then.items cell class) ≡ events_left (queue_in u.items cell class)
+  queues-stay cell class = ap (λ (s : State). events_left (queue_in s.items cell class)) (landing-is setting fleet u)
+
+  landing-falls : (cell : CellId) → belongs cell fleet ≡ true → waiting_at setting landed_then cell < waiting_at setting u cell
+  landing-falls cell has =
+      let changed = landings-changed cell in
+      let less = counted-falls cell fleet back (back-out fleet _) has in
+      let buildings = queues-stay cell Buildings in
+      let researches = queues-stay cell Researches in
+      let yard = queues-stay cell Yard in
+      omega (arith, changed, less, buildings, researches, yard)
+
+  landing-less : (cell : CellId) → waiting_at setting landed_then cell ≤ waiting_at setting u cell
+  landing-less cell =
+      elim (test (belongs cell fleet)) [
+        | inl has ↦ (let less = landing-falls cell has in omega (arith, less))
+        | inr apart ↦
+            (let changed = landings-changed cell in
+            let none = counted-none cell fleet back apart in
+            let buildings = queues-stay cell Buildings in
+            let researches = queues-stay cell Researches in
+            let yard = queues-stay cell Yard in
+            omega (arith, changed, none, buildings, researches, yard))
+      ]
+
+-- So does each event, at its home.
+event-less : (setting : Setting) (u : State) (event : Event) → KeepsRules setting u → Owes (view setting.cells u (home event)) event → (cell : CellId)
+    → waiting_at setting (effect setting event u) cell ≤ waiting_at setting u cell
+event-less setting u (item_due class item later) fine stands cell = item-less setting u class item later fine stands cell
+event-less setting u (lands fleet) fine stands cell = landing-less setting u fleet fine (flies-in setting.cells u (home (lands fleet)) fleet stands) cell
+
+event-falls : (setting : Setting) (u : State) (event : Event) → KeepsRules setting u → Owes (view setting.cells u (home event)) event
+    → waiting_at setting (effect setting event u) (home event) < waiting_at setting u (home event)
+event-falls setting u (item_due class item later) fine stands = item-falls setting u class item later fine stands class refl
+event-falls setting u (lands fleet) fine stands =
+    landing-falls setting u fleet fine (flies-in setting.cells u (home (lands fleet)) fleet stands) (home (lands fleet)) (landing-belongs fleet)
+
 unheld : (o : Option Stand) → is_some o ≡ false → seen_of o ≡ nothing_seen
 unheld None none = refl
 unheld (Some stand) none = never true refl none
 
--- So do the cells that are held, if they show a universe before and after it.
-module _ (setting : Setting) (f : Stamps (game setting)) (old new : Held) (due : Due) (item : Item) (later : List Item) (shows : Shows setting old f) (fine : KeepsRules setting f.universe)
-    (owed : items_held old due.queue ≡ item ∷ later) (after : Shows setting new (event_acts (game setting) (event_of due.queue item later) f)) (same : HoldsSame old new) where
-  abbrev brought_there : Stamps (game setting)
-  brought_there = bring_to (game setting) (footprint (event_of due.queue item later)) item.second f
+-- And so do the cells that are held, if they show a universe before and after it.
+module _ (setting : Setting) (f : Stamps (game setting)) (old new : Held) (event : Event) (shows : Shows setting old f) (fine : KeepsRules setting f.universe)
+    (stands : Owes (view setting.cells f.universe (home event)) event) (inside : holds old (home event) ≡ true)
+    (after : Shows setting new (event_acts (game setting) event f)) (same : HoldsSame old new) where
+  abbrev there : State
+  there = (bring_to (game setting) (footprint event) (second_of event) f).universe
 
-  fine-there : KeepsRules setting brought_there.universe
+  fine-there : KeepsRules setting there
   fine-there = advance-keeps setting _ f.universe fine
 
-  stands-there : StandsBy brought_there.universe (class_of due.queue) item later
-  stands-there = (owed-there setting old f due.queue item later shows owed).1
+  stands-there : Owes (view setting.cells there (home event)) event
+  stands-there =
+      let seconds : CellId → ℕ = λ x. cond (footprint event x) (second_of event - f.at x) 0 in
+      subst (λ v. Owes v event) (sym (view-advanced setting seconds f.universe (home event)))
+      (gains-owe setting.rules (seconds (home event)) (view setting.cells f.universe (home event)) event stands)
 
-  seen-less : (cell : CellId) (kind : QueueClass) → events_left ((seen_held new cell).queue kind) ≤ events_left ((seen_held old cell).queue kind)
-  seen-less cell kind =
+  was : (cell : CellId) → holds old cell ≡ true → waiting (seen_held old cell) ≡ waiting_at setting there cell
+  was cell held = ap waiting (held-seen setting old f cell shows held)
+
+  is : (cell : CellId) → holds old cell ≡ true → waiting (seen_held new cell) ≡ waiting_at setting (effect setting event there) cell
+  is cell held = ap waiting (held-seen setting new (event_acts (game setting) event f) cell after (same cell ∙ held))
+
+  seen-less : (cell : CellId) → waiting (seen_held new cell) ≤ waiting (seen_held old cell)
+  seen-less cell =
       elim (test (holds old cell)) [
-        | inl inside ↦
-            (let was = ap (λ (v : View). events_left (v.queue kind)) (held-seen setting old f cell shows inside) in
-            let is = ap (λ (v : View). events_left (v.queue kind)) (held-seen setting new (event_acts (game setting) (event_of due.queue item later) f) cell after (same cell ∙ inside)) in
-            let less = queue-less setting brought_there.universe (class_of due.queue) item later fine-there stands-there cell kind in
-            omega (arith, was, is, less))
+        | inl held ↦
+            (let before = was cell held in
+            let now = is cell held in
+            let less = event-less setting there event fine-there stands-there cell in
+            omega (arith, before, now, less))
         | inr out ↦
-            (let is = ap (λ (v : View). events_left (v.queue kind)) (unheld (held_at new cell) (same cell ∙ out)) in
-            omega (arith, is))
+            (let none : waiting (seen_held new cell) ≡ 0 = ap waiting (unheld (held_at new cell) (same cell ∙ out)) in
+            omega (arith, none))
       ]
 
-  abbrev place : item.cell ≡ home_of due.queue
-  place = (owed-there setting old f due.queue item later shows owed).0
-
-  abbrev home-held : holds old item.cell ≡ true
-  home-held = ap (holds old) place ∙ queue-inside old due.queue item later owed
-
-  seen-fewer : AreFewer old new item.cell (class_of due.queue)
+  seen-fewer : AreFewer old new (home event)
   seen-fewer = record {
     other = seen-less;
     one =
-        (let was = ap (λ (v : View). events_left (v.queue (class_of due.queue))) (held-seen setting old f item.cell shows home-held) in
-        let is = ap (λ (v : View). events_left (v.queue (class_of due.queue)))
-        (held-seen setting new (event_acts (game setting) (event_of due.queue item later) f) item.cell after (same item.cell ∙ home-held)) in
-        let less = queue-falls setting brought_there.universe (class_of due.queue) item later fine-there stands-there in
-        omega (arith, was, is, less));
+        (let before = was (home event) inside in
+        let now = is (home event) inside in
+        let less = event-falls setting there event fine-there stands-there in
+        omega (arith, before, now, less));
   }
 
   -- so the measure of the course falls
   pub waiting_falls : (held : Held) → HoldsSame held old → waiting_in new (names_held held) < waiting_in old (names_held held)
   waiting_falls held all =
-      falls old new item.cell (class_of due.queue) seen-fewer (names_held held) (held_named held item.cell (sym (all item.cell) ∙ home-held))
+      falls old new (home event) seen-fewer (names_held held) (held_named held (home event) (sym (all (home event)) ∙ inside))
 
 still-held : (b : Bool) (f : Stand → Stand) (o : Option Stand) → is_some (cond b (option_map f o) o) ≡ is_some o
 still-held true f None = refl
@@ -200,7 +315,7 @@ still-held true f (Some stand) = refl
 still-held false f o = refl
 
 -- the same cells are held after an event
-pub happens_same : (rules : Rules) (due : Due) (old new : Held) → CanHappen old due → Happens rules due old new → HoldsSame old new
-happens_same rules due old new can happens cell =
-    ap is_some (happens can.item can.later can.owed cell)
-    ∙ still-held (footprint (event_of due.queue can.item can.later) cell) (stand_after rules (event_of due.queue can.item can.later) old cell) (held_at old cell)
+pub happens_same : (rules : Rules) (what : Happening) (old new : Held) → CanHappen old what → Happens rules what old new → HoldsSame old new
+happens_same rules what old new can happens cell =
+    ap is_some (happens can.event can.owed cell)
+    ∙ still-held (footprint can.event cell) (stand_after rules can.event old cell) (held_at old cell)

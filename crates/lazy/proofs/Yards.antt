@@ -1,8 +1,10 @@
 -- Yards of cells that are held, as code lets them run.
-use Rattle.std.proofs.Common.{◌≡◌, ℕ, suc, ◌+◌, ◌-◌, ◌<◌, ◌≤◌, true, false, cond, List, drop, get_or, length, drop-cons, arith, refl, ap, ◌∙◌, sym, subst, Option, Some, None}
+use Rattle.std.proofs.Common.{◌≡◌, ℕ, suc, ◌+◌, ◌-◌, ◌<◌, ◌≤◌, true, false, cond, List, [], ◌∷◌, drop, get_or, length, drop-cons, arith, refl, ap, ◌∙◌, sym, subst, Option, Some, None}
 use Rattle.std.proofs.Math.Path.{fun_ext}
 use Rattle.std.specs.Prelude.{option_map}
 use Rattle.base_ids.specs.declared.cell_id.CellId.{CellId}
+use Rattle.base_ids.specs.declared.cell_id.CellId.TheVariants.{Account}
+use Rattle.base_ids.specs.declared.player.Player.{Player}
 use Rattle.happenings.specs.Held.{account_stand, held_at, planet_stand}
 use Rattle.happenings.specs.declared.held.AccountCell.{AccountCell}
 use Rattle.happenings.specs.declared.held.Held.{Held}
@@ -13,20 +15,25 @@ use Rattle.planet_cell.specs.Planet.{AreSame, batches_of, buildings_of, queue_of
 use Rattle.planet_cell.specs.Yard.{IsAhead, ticked_yard, yard_of}
 use Rattle.planet_cell.specs.declared.planet.Planet.{Planet}
 use Rattle.tick_model.specs.Buildings.{Works}
-use Rattle.tick_model.specs.Universe.{Buildings, Researches, Yard, QueueClass, of_planet}
+use Rattle.tick_model.specs.Universe.{Buildings, Researches, Yard, Fleet, QueueClass, of_planet}
 use Rattle.tick_model.specs.declared.rules.Rules.{Rules}
-use Rattle.lazy.specs.Running.{first_turn, is_running, ran_stand, run_until, turn_at, with_yard}
+use Rattle.lazy.specs.Running.{first_turn, is_running, landing_second, ran_stand, run_until, turn_at, with_yard}
 use Rattle.lazy.proofs.Turns.{running-is}
 
 -- one cell more
-pub turn-more : (held : Held) (names : List CellId) (i : ℕ) (name : CellId) (first next limit : ℕ) → i < length names → name ≡ get_or names i name → next ≡ turn_at first (held_at held name)
+pub turn-more : (held : Held) (names : List CellId) (i : ℕ) (name : CellId) (first next limit : ℕ) → i < length names → name ≡ get_or names i name → next ≡ turn_at first name (held_at held name)
     → first_turn held first (drop i names) ≡ first_turn held limit names → first_turn held next (drop (i + 1) names) ≡ first_turn held limit names
 turn-more held names i name first next limit below is turns so_far =
     let one : i + 1 ≡ suc i = omega arith in
     ap (λ n. first_turn held n (drop (i + 1) names)) turns
-    ∙ (λ j. first_turn held (turn_at first (held_at held (is j))) (drop (one j) names))
+    ∙ (λ j. first_turn held (turn_at first (is j) (held_at held (is j))) (drop (one j) names))
     ∙ ap (first_turn held first) (sym (drop-cons names i name below))
     ∙ so_far
+
+-- no fleet lands at an account
+pub account-landing : (limit : ℕ) (player : Player) (fleets : List Fleet) → landing_second limit (Account player) fleets ≡ limit
+account-landing limit player [] = refl
+account-landing limit player (fleet ∷ later) = account-landing limit player later
 
 -- accounts have no yards
 pub account-stays : (rules : Rules) (limit : ℕ) (o : Option AccountCell) → ran_stand rules limit (option_map account_stand o) ≡ None
@@ -65,10 +72,10 @@ queues-ran copy new came buildings yard Yard = yard
 -- a copy of a planet whose yard ran
 pub planet-ran : (rules : Rules) (until : ℕ) (cell : PlanetCell) (copy new : Planet) → AreSame cell.planet copy
     → yard_of new ≡ ticked_yard rules.speed cell.second (until - cell.second) (yard_of copy) → buildings_of new ≡ buildings_of copy
-    → planet_stand (record { second = until; planet = new }) ≡ run_until rules until (planet_stand cell)
+    → planet_stand (record { second = until; planet = new; fleets = cell.fleets }) ≡ run_until rules until (planet_stand cell)
 planet-ran rules until cell copy new same works buildings =
-    let old : PlanetCell = record { second = cell.second; planet = copy } in
+    let old : PlanetCell = record { second = cell.second; planet = copy; fleets = cell.fleets } in
     let came = ticked_yard rules.speed cell.second (until - cell.second) (yard_of copy) in
     let queue = fun_ext (queues-ran copy new came buildings (ap (λ (w : Works). w.queue) works)) in
-    (λ i. record { second = until; seen = planet_seen (of_planet (works i).planet) (queue i) })
-    ∙ ap (run_until rules until) (sym (same_stand cell old refl same))
+    (λ i. record { second = until; seen = planet_seen (of_planet (works i).planet) (queue i) cell.fleets })
+    ∙ ap (run_until rules until) (sym (same_stand cell old refl same refl))

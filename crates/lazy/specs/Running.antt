@@ -1,12 +1,15 @@
 -- Yards that build on alone, until another event has its turn. Rules: docs/RULES.md, "Events" and "The yard".
 use Rattle.std.specs.Prelude.{◌≡◌, ℕ, ◌+◌, ◌-◌, min, Bool, false, ◌&&◌, nat_le, nat_lt, List, [], ◌∷◌, Option, None, Some, option_map, if◌then◌else◌}
+use Rattle.base_ids.specs.Cells.{same_cell}
 use Rattle.base_ids.specs.declared.cell_id.CellId.{CellId}
+use Rattle.base_ids.specs.declared.cell_id.CellId.TheVariants.{Planet as PlanetId}
 use Rattle.happenings.specs.Held.{Stand, held_at}
 use Rattle.happenings.specs.Sights.{names_held}
 use Rattle.happenings.specs.declared.held.Held.{Held}
 use Rattle.planet_cell.specs.Yard.{built, ticked_yard}
 use Rattle.tick_model.specs.Buildings.{Built}
-use Rattle.tick_model.specs.Universe.{Buildings, Researches, Yard, Item, Own, of_planet, QueueClass}
+use Rattle.tick_model.specs.Flights.{landing}
+use Rattle.tick_model.specs.Universe.{Buildings, Fleet, Researches, Yard, Item, Own, of_planet, QueueClass}
 use Rattle.tick_model.specs.declared.rules.Rules.{Rules}
 
 -- the second of the first item of a queue, if it comes before a limit, or else the limit
@@ -19,20 +22,27 @@ abbrev pub reached_second : ℕ → ℕ → List Item → ℕ
 reached_second limit second [] = limit
 reached_second limit second (batch ∷ later) = if nat_le batch.second second then min batch.second limit else limit
 
--- The second before a limit at which an event of a cell has to wait for its turn, or else the limit: a building or a research is
--- done then, or a unit to whose second its planet has come already.
-abbrev pub turn_of : ℕ → Stand → ℕ
-turn_of limit stand =
-    reached_second (first_second (first_second limit (stand.seen.queue Buildings)) (stand.seen.queue Researches)) stand.second (stand.seen.queue Yard)
+-- the second of the first of these fleets that lands at a cell, if it comes before a limit, or else the limit
+abbrev pub landing_second : ℕ → CellId → List Fleet → ℕ
+landing_second limit cell [] = limit
+landing_second limit cell (fleet ∷ later) =
+    landing_second (if same_cell (PlanetId (landing fleet)) cell then min fleet.second limit else limit) cell later
 
-abbrev pub turn_at : ℕ → Option Stand → ℕ
-turn_at limit None = limit
-turn_at limit (Some stand) = turn_of limit stand
+-- The second before a limit at which an event of a cell has to wait for its turn, or else the limit: a building or a research is
+-- done then, or a unit to whose second its planet has come already, or a fleet lands.
+abbrev pub turn_of : ℕ → CellId → Stand → ℕ
+turn_of limit cell stand =
+    landing_second (reached_second (first_second (first_second limit (stand.seen.queue Buildings)) (stand.seen.queue Researches)) stand.second (stand.seen.queue Yard))
+    cell stand.seen.fleets
+
+abbrev pub turn_at : ℕ → CellId → Option Stand → ℕ
+turn_at limit cell None = limit
+turn_at limit cell (Some stand) = turn_of limit cell stand
 
 -- the first of these seconds of some cells
 abbrev pub first_turn : Held → ℕ → List CellId → ℕ
 first_turn held limit [] = limit
-first_turn held limit (cell ∷ cells) = first_turn held (turn_at limit (held_at held cell)) cells
+first_turn held limit (cell ∷ cells) = first_turn held (turn_at limit cell (held_at held cell)) cells
 
 -- a unit of a yard is done after the second at which its planet stands, and before a limit
 abbrev pub is_running : ℕ → ℕ → List Item → Bool

@@ -26,8 +26,8 @@ pub fn advance(alloc: Global, rules: &Rules, cells: &Held, moment: u64) -> Resul
     ensures named { IfOk result IsNamed }
 {
     let mut copies = cells.copy(alloc)?;
-    'events: while let Some(due) = copies.first_due(moment) {
-        apply(&mut copies, rules, due)?;
+    'events: while let Some(what) = copies.first_due(moment) {
+        apply(&mut copies, rules, what)?;
         run_yards(alloc, &mut copies, rules, moment)?;
     }
     copies.gained(alloc, rules, moment)

@@ -1,17 +1,19 @@
-ghost use Rattle.std.specs.Prelude.{◌≡◌, [], ◌∷◌, ◌++◌, Some, IfOk, OnOk, OnErr, codes, map};
+ghost use Rattle.std.specs.Prelude.{◌≡◌, [], ◌∷◌, ◌++◌, Some, IfOk, OnOk, codes, map};
 ghost use Rattle.base_ids.specs.declared.cell_id.CellId.TheVariants.{Account as AccountId, Planet as PlanetId};
 ghost use Rattle.closure.specs.Directory.{cells_of};
 ghost use Rattle.happenings.specs.Held.{IsNamed, account_stand, planet_stand};
+ghost use Rattle.fleet_rec.specs.Fleet.{fleet_seen};
 ghost use Rattle.lazy.specs.Dumping.{held_text, place_of, stand_text};
 ghost use Rattle.reply_text.specs.Words.{line};
-ghost use Rattle.tick_model.specs.Dump.{cell_line};
+ghost use Rattle.tick_model.specs.Dump.{cell_line, link_line, link_lines, other_fleets};
 ghost use Rattle.tick_model.specs.Universe.{Setting};
 
 use base_ids::{Coord, Player};
 use base_text::Bytes;
 use closure::{Places, Spot};
+use fleet_rec::Fleet;
 use happenings::{AccountCell, Held, PlanetCell};
-use orders::{account_lines, planet_lines};
+use orders::{account_lines, own_fleet_lines, planet_lines};
 use std::alloc::{AllocError, Global};
 use tick_model::Rules;
 
@@ -75,9 +77,12 @@ fn push_account(alloc: Global, text: &mut Bytes, cell: &AccountCell) -> Result<(
         → text.new ≡ text.old ++ stand_text setting (AccountId cell.now.account.player) (Some (account_stand cell.now))) }
 {
     push_account_name(alloc, text, cell.account.player, cell.second)?;
-    let lines = account_lines(alloc, &cell.account)?;
+    let player = cell.account.player;
+    let lines = account_lines(alloc, &cell.account, &cell.fleets)?;
     text.push(lines.as_slice())?;
-    Ok(())
+    let own = own_fleet_lines(alloc, &cell.fleets, player)?;
+    text.push(own.as_slice())?;
+    push_other_links(alloc, text, cell.fleets.as_slice(), player)
 }
 
 // Appends the lines of a planet that is held.
@@ -93,7 +98,7 @@ fn push_planet(
     push_planet_name(alloc, text, cell.planet.at, cell.second)?;
     let lines = planet_lines(alloc, rules.speed, &cell.planet)?;
     text.push(lines.as_slice())?;
-    Ok(())
+    push_links(alloc, text, cell.fleets.as_slice())
 }
 
 // Appends the line of an account's name and second.
@@ -120,6 +125,57 @@ fn push_planet_name(
     ensures { OnOk result (text.new ≡ text.old ++ cell_line (PlanetId at) second) }
 {
     let line = format!(in alloc; "cell planet {at} at {second}")?;
+    text.push_line(line.as_bytes())?;
+    Ok(())
+}
+
+// Appends a link for each of the fleets.
+#[tactic(auto, using(crate::proofs::Links::next_link))]
+fn push_links(alloc: Global, text: &mut Bytes, fleets: &[Fleet]) -> Result<(), AllocError>
+    ensures { OnOk result (text.new ≡ text.old ++ link_lines (map fleet_seen fleets.now)) }
+{
+    'fleets: for fleet in fleets {
+        push_link(alloc, text, fleet)?;
+    }
+    Ok(())
+}
+
+// Appends a link for each of the fleets that isn't the player's.
+#[tactic(auto, using(crate::proofs::Links::next_other))]
+fn push_other_links(
+    alloc: Global,
+    text: &mut Bytes,
+    fleets: &[Fleet],
+    player: Player,
+) -> Result<(), AllocError>
+    ensures { OnOk result (text.new ≡ text.old ++ link_lines (other_fleets player (map fleet_seen fleets.now))) }
+{
+    'fleets: for fleet in fleets {
+        push_other_link(alloc, text, fleet, player)?;
+    }
+    Ok(())
+}
+
+// Appends the link of a fleet, if it isn't the player's.
+fn push_other_link(
+    alloc: Global,
+    text: &mut Bytes,
+    fleet: &Fleet,
+    player: Player,
+) -> Result<(), AllocError>
+    ensures { OnOk result (text.new ≡ text.old ++ link_lines (other_fleets player (fleet_seen fleet.now ∷ []))) }
+{
+    if fleet.owner.k == player.k {
+        return Ok(());
+    }
+    push_link(alloc, text, fleet)
+}
+
+// Appends the link of a fleet.
+fn push_link(alloc: Global, text: &mut Bytes, fleet: &Fleet) -> Result<(), AllocError>
+    ensures { OnOk result (text.new ≡ text.old ++ link_line (fleet_seen fleet.now)) }
+{
+    let line = format!(in alloc; "link {} {}", fleet.number, fleet.second)?;
     text.push_line(line.as_bytes())?;
     Ok(())
 }

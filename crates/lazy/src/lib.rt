@@ -4,8 +4,10 @@
 mod advancing;
 mod beginning;
 mod dumping;
+mod ordered;
 mod planning;
 mod running;
+mod taking;
 mod universe;
 
 pub use advancing::advance;

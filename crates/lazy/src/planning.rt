@@ -1,26 +1,25 @@
-ghost use Rattle.std.specs.Prelude.{◌≡◌, ◌≤◌, IfOk, OnOk};
+ghost use Rattle.std.specs.Prelude.{◌≡◌, ◌≤◌, IfOk};
 ghost use Rattle.base_ids.specs.declared.cell_id.CellId.{CellId};
-ghost use Rattle.base_ids.specs.declared.cell_id.CellId.TheVariants.{Planet as PlanetId};
-ghost use Rattle.closure.specs.declared.places.Places.{Places};
+ghost use Rattle.base_ids.specs.declared.numbers.TheConstants.{LAST_NUMBER};
+ghost use Rattle.fleet_rec.specs.Fleet.{fleet_seen};
 ghost use Rattle.happenings.specs.Held.{IsNamed, held_at};
-ghost use Rattle.happenings.specs.Numbering.{numbered_at};
-ghost use Rattle.happenings.specs.Queues.{seen_held};
 ghost use Rattle.laziness.specs.Stamps.{Stamps};
-ghost use Rattle.lazy.specs.Planning.{CanAnswer, IsAnswered};
-ghost use Rattle.lazy.specs.Plans.{IsPlan, queue_ordered};
-ghost use Rattle.lazy.specs.Taking.{AreTaken, IsTaken, PutsAccount, PutsPlanet, seen_by};
-ghost use Rattle.orders.specs.Acting.{place_named};
+ghost use Rattle.lazy.specs.Planning.{CanAnswer};
+ghost use Rattle.lazy.specs.Plans.{IsOrdered, IsPlan, fleet_ordered, last_fleet, ordered_at, queue_ordered};
 ghost use Rattle.ports.specs.declared.clock.TheConstants.{LATEST};
+ghost use Rattle.std.specs.Prelude.{option_map};
 ghost use Rattle.tick_model.specs.Game.{game};
 ghost use Rattle.tick_model.specs.Universe.{Setting};
 
 use crate::advancing::advance;
-use account_cell::Account;
-use base_ids::{Coord, Player};
+use crate::ordered::Ordered;
+use crate::taking::{from_place, put_parts, take_parts, to_place};
+use base_ids::Player;
 use base_text::Bytes;
-use happenings::{AccountCell, Held, PlanetCell, Queue};
-use orders::{Parts, act};
-use planet_cell::Planet;
+use closure::Places;
+use fleet_rec::{Fleet, Fleets};
+use happenings::{Held, Queue};
+use orders::act;
 use reply_text::Reply;
 use request_text::Request;
 use std::alloc::{AllocError, Global};
@@ -33,18 +32,21 @@ pub struct Plan {
     moment: u64,
     code: u8,
     body: Bytes,
-    // The queue whose last item bears the number.
-    ordered: Option<Queue>,
+    // What bears the number.
+    ordered: Option<Ordered>,
 }
 
 impl Plan {
-    ghost use Rattle.std.specs.Prelude.{ℕ};
+    ghost use Rattle.std.specs.Prelude.{ℕ, ◌≤◌};
+    ghost use Rattle.base_ids.specs.declared.numbers.TheConstants.{LAST_NUMBER};
     ghost use Rattle.base_ids.specs.declared.player.Player.{Player};
     ghost use Rattle.happenings.specs.declared.held.Held.{Held};
+    ghost use Rattle.lazy.specs.Planning.{IsAnswered};
     ghost use Rattle.request_text.specs.declared.request.Request.{Request};
 
     /// Gives the request its number: the cells as it leaves them, and its reply. It takes no memory.
     pub fn finish(mut self, number: u64) -> (Held, Reply)
+        requires { number ≤ LAST_NUMBER }
         ensures { (setting : Setting) (f : Stamps (game setting)) (held : Held) (player : Player) (req : Request) (moment : ℕ)
             → IsPlan setting held player req moment f self → IsAnswered setting held player req moment number f result.0 result.1 }
     {
@@ -61,26 +63,29 @@ impl Plan {
     }
 }
 
-/// Works out a request at a moment of at most 2^40 − 1 seconds on copies of the cells that it needs. It fails only if memory runs
-/// out.
+/// Works out a request at a moment of at most 2^40 − 1 seconds on copies of the cells that it needs, among those of a directory. It
+/// fails only if memory runs out.
 ///
-/// An item that it orders bears the number 0 until the plan is finished.
+/// What it orders bears the number 0 until the plan is finished.
 pub fn prepare(
     alloc: Global,
     rules: &Rules,
+    places: &Places,
     cells: &Held,
     player: Player,
     req: &Request,
     moment: u64,
 ) -> Result<Plan, AllocError>
-    requires can { (setting : Setting) × (places : Places) × (f : Stamps (game setting)) × CanAnswer setting rules.now places cells.now player req.now moment f }
+    requires can { (setting : Setting) × (f : Stamps (game setting)) × CanAnswer setting rules.now places.now cells.now player req.now moment f }
     requires named { IsNamed cells.now }
     requires in_time { moment ≤ LATEST }
-    ensures { IfOk result (λ plan. (setting : Setting) (places : Places) (f : Stamps (game setting))
-        → CanAnswer setting rules.now places cells.now player req.now moment f → IsPlan setting cells.now player req.now moment f plan) }
+    ensures { IfOk result (λ plan. (setting : Setting) (f : Stamps (game setting))
+        → CanAnswer setting rules.now places.now cells.now player req.now moment f → IsPlan setting cells.now player req.now moment f plan) }
 {
     let mut cells = advance(alloc, rules, cells, moment)?;
-    let mut parts = take_parts(&cells, player, req)?;
+    let mut parts = take_parts(alloc, places, &cells, player, req)?;
+    let from = from_place(player, &parts.fleets.caller, req);
+    let to = to_place(player, &parts.fleets.caller, req);
     let acted = act(alloc, &mut parts, rules, req, moment)?;
     if acted.code > 0 {
         return Ok(Plan {
@@ -91,112 +96,46 @@ pub fn prepare(
             ordered: None,
         });
     }
-    put_account(&mut cells, parts.caller, moment)?;
-    put_planet(&mut cells, place_named(req), parts.from, moment)?;
+    let ordered = ordered(player, req, &parts.fleets.caller);
+    put_parts(&mut cells, parts, from, to, moment)?;
     Ok(Plan {
         cells,
         moment,
         code: acted.code,
         body: acted.body,
-        ordered: queue_ordered(player, req),
+        ordered,
     })
 }
 
-/// Gives a number to the last item of a queue, if one is named.
-fn number_ordered(cells: &mut Held, ordered: Option<Queue>, number: u64)
-    ensures numbers { (cell : CellId) → held_at cells.new cell ≡ numbered_at number ordered cells.old cell }
+/// Gives a number to what a request ordered, if it ordered anything.
+fn number_ordered(cells: &mut Held, ordered: Option<Ordered>, number: u64)
+    requires { number ≤ LAST_NUMBER }
+    ensures numbers { (cell : CellId) → held_at cells.new cell ≡ ordered_at number ordered cells.old cell }
     ensures named { IsNamed cells.old → IsNamed cells.new }
 {
-    if let Some(queue) = ordered {
-        cells.number_last(queue, number);
+    match ordered {
+        Some(Ordered::Item(queue)) => cells.number_last(queue, number),
+        Some(Ordered::Fleet(fleet)) => cells.number_fleet(&fleet, number),
+        None => {}
     }
 }
 
-/// The parts that a request asks for, in memory of their own: none, if the caller's account isn't held.
-fn take_parts(cells: &Held, player: Player, req: &Request) -> Result<Parts, AllocError>
-    requires { IsNamed cells.now }
-    ensures { IfOk result (AreTaken (seen_by cells.now player) player req.now) }
-{
-    let Some(cell) = cells.account(player) else {
-        return Ok(Parts {
-            caller: None,
-            from: None,
-        });
-    };
-    let caller = Some(cell.account.copy()?);
-    let Some(at) = place_named(req) else {
-        return Ok(Parts { caller, from: None });
-    };
-    let from = take_planet(cells, at)?;
-    Ok(Parts { caller, from })
-}
-
-/// The planet at a place, in memory of its own, if it is held.
-fn take_planet(cells: &Held, at: Coord) -> Result<Option<Planet>, AllocError>
-    requires { IsNamed cells.now }
-    ensures { IfOk result (IsTaken (seen_held cells.now (PlanetId at)) at) }
-{
-    match cells.planet(at) {
-        Some(cell) => Ok(Some(cell.planet.copy()?)),
-        None => Ok(None),
-    }
-}
-
-/// The place that a request names. The forms that aren't played yet name none.
-fn place_named(req: &Request) -> Option<Coord>
-    ensures { result ≡ place_named req.now }
+/// What a player's request orders, if it is granted; the caller has these fleets then.
+fn ordered(player: Player, req: &Request, fleets: &Fleets) -> Option<Ordered>
+    ensures { IsOrdered (queue_ordered player req.now) (fleet_ordered req.now fleets.now) result }
 {
     match req {
-        Request::Planet(at)
-        | Request::Build(at, _)
-        | Request::Research(at, _)
-        | Request::Yard(at, _, _)
-        | Request::Set(at, _, _) => Some(*at),
+        Request::Build(at, _) => Some(Ordered::Item(Queue::Buildings(*at))),
+        Request::Research(_, _) => Some(Ordered::Item(Queue::Research(player))),
+        Request::Yard(at, _, _) => Some(Ordered::Item(Queue::Yard(*at))),
+        Request::Send(_, _, _, _, _, _) => Some(Ordered::Fleet(last_fleet(fleets)?)),
         _ => None,
     }
 }
 
-/// The queue whose last item is what a player's request orders, if it is granted.
-fn queue_ordered(player: Player, req: &Request) -> Option<Queue>
-    ensures { result ≡ queue_ordered player req.now }
+/// The last of the fleets.
+fn last_fleet(fleets: &Fleets) -> Option<Fleet>
+    ensures { option_map fleet_seen result ≡ last_fleet fleets.now }
 {
-    match req {
-        Request::Build(at, _) => Some(Queue::Buildings(*at)),
-        Request::Research(_, _) => Some(Queue::Research(player)),
-        Request::Yard(at, _, _) => Some(Queue::Yard(*at)),
-        _ => None,
-    }
-}
-
-/// Holds the account at a moment, if there is one. It fails only if memory runs out.
-fn put_account(cells: &mut Held, account: Option<Account>, moment: u64) -> Result<(), AllocError>
-    ensures puts { OnOk result (PutsAccount account moment cells.old cells.new) }
-    ensures named { OnOk result (IsNamed cells.old → IsNamed cells.new) }
-{
-    match account {
-        Some(account) => cells.put_account(AccountCell {
-            second: moment,
-            account,
-        }),
-        None => Ok(()),
-    }
-}
-
-/// Holds the planet at a moment, if a place was named and a planet stands there. It fails only if memory runs out.
-fn put_planet(
-    cells: &mut Held,
-    named: Option<Coord>,
-    planet: Option<Planet>,
-    moment: u64,
-) -> Result<(), AllocError>
-    ensures puts { OnOk result (PutsPlanet named planet moment cells.old cells.new) }
-    ensures named { OnOk result (IsNamed cells.old → IsNamed cells.new) }
-{
-    match (named, planet) {
-        (Some(_), Some(planet)) => cells.put_planet(PlanetCell {
-            second: moment,
-            planet,
-        }),
-        _ => Ok(()),
-    }
+    fleets.as_slice().last().copied()
 }

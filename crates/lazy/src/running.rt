@@ -1,13 +1,16 @@
-ghost use Rattle.std.specs.Prelude.{◌≡◌, ◌+◌, ◌≤◌, IfOk, OnErr, OnOk};
+ghost use Rattle.std.specs.Prelude.{◌≡◌, ◌+◌, ◌≤◌, IfOk, OnErr, OnOk, map};
 ghost use Rattle.account_cell.specs.Account.{research_of};
 ghost use Rattle.base_ids.specs.declared.cell_id.CellId.{CellId};
+ghost use Rattle.base_ids.specs.declared.cell_id.CellId.TheVariants.{Planet as PlanetId};
+ghost use Rattle.fleet_rec.specs.Fleet.{fleet_seen};
 ghost use Rattle.happenings.specs.Held.{CopiesFrom, IsEqual, IsNamed, PicksFrom, held_at, planet_stand};
-ghost use Rattle.lazy.specs.Running.{YardsRun, first_second, first_turn, is_running, ran_at, reached_second, run_until, turn_at};
+ghost use Rattle.lazy.specs.Running.{YardsRun, first_second, first_turn, is_running, landing_second, ran_at, reached_second, run_until, turn_at, turn_of};
 ghost use Rattle.planet_cell.specs.Planet.{batches_of, buildings_of};
 ghost use Rattle.planet_cell.specs.Yard.{IsAhead};
 ghost use Rattle.ports.specs.declared.clock.TheConstants.{LATEST};
 
-use base_ids::CellId;
+use base_ids::{CellId, Coord};
+use fleet_rec::Fleet;
 use happenings::{AccountCell, Held, PlanetCell};
 use planet_cell::Planet;
 use std::alloc::{AllocError, Global};
@@ -48,7 +51,7 @@ fn first_turn(cells: &Held, names: &[CellId], limit: u64) -> u64
 
 /// The second before a limit at which an event of this cell has to wait for its turn, or else the limit.
 fn turn_at(cells: &Held, name: CellId, limit: u64) -> u64
-    ensures value { result ≡ turn_at limit (held_at cells.now name) }
+    ensures value { result ≡ turn_at limit name (held_at cells.now name) }
     ensures within { result ≤ limit }
 {
     match name {
@@ -57,10 +60,33 @@ fn turn_at(cells: &Held, name: CellId, limit: u64) -> u64
             None => limit,
         },
         CellId::Planet(at) => match cells.planet(at) {
-            Some(cell) => unit_turn(cell, building_turn(&cell.planet, limit)),
+            Some(cell) => planet_turn(cell, at, limit),
             None => limit,
         },
     }
+}
+
+/// The second before a limit at which an event of the planet at a place has to wait for its turn, or else the limit.
+fn planet_turn(cell: &PlanetCell, at: Coord, limit: u64) -> u64
+    ensures value { result ≡ turn_of limit (PlanetId at) (planet_stand cell.now) }
+    ensures within { result ≤ limit }
+{
+    let first = unit_turn(cell, building_turn(&cell.planet, limit));
+    landing_turn(cell.fleets.as_slice(), at, first)
+}
+
+/// The second at which the first of these fleets lands at a place, if it comes before a limit, or else the limit.
+fn landing_turn(fleets: &[Fleet], at: Coord, limit: u64) -> u64
+    ensures value { result ≡ landing_second limit (PlanetId at) (map fleet_seen fleets.now) }
+    ensures within { result ≤ limit }
+{
+    let mut first = limit;
+    'fleets: for fleet in fleets {
+        if fleet.landing() == at {
+            first = fleet.second.min(first);
+        }
+    }
+    first
 }
 
 /// The second at which the research that runs is done, if it comes before a limit, or else the limit.

@@ -12,6 +12,7 @@ use account_cell::Account;
 use base_bytes::Base;
 use base_ids::{Coord, LAST_NUMBER, Player};
 use catalog::{Building, Count, Kind, Technology, Techs, Unit};
+use fleet_rec::Fleets;
 use planet_cell::Planet;
 use rates::{GRAINS, Resources};
 use reply_text::Reply;
@@ -91,6 +92,7 @@ fn base(alloc: Global, first: Coord, second: Coord, units: u64) -> Result<Base, 
         number: 0,
         accounts: vec![in alloc; account(alloc, first, second)?]?,
         planets: vec![in alloc; planet(alloc, first, units), planet(alloc, second, units)]?,
+        fleets: Fleets::new(alloc),
     })
 }
 

@@ -15,7 +15,7 @@ use crate::planning::prepare;
 use base_bytes::Base;
 use base_ids::Player;
 use base_text::Bytes;
-use closure::{Needed, Places, asked, needed};
+use closure::{Ids, Needed, Places, asked, needed};
 use happenings::Held;
 use reply_text::Reply;
 use request_text::Request;
@@ -46,7 +46,8 @@ pub struct Prepared {
 
 impl LazyUniverse {
     ghost use Rattle.lazy.specs.Keeping.{Asks, IsPrepared, Keeps, KeepsSome};
-    ghost use Rattle.lazy.specs.Touching.{AreTouched};
+    ghost use Rattle.happenings.specs.Sights.{sees_held};
+    ghost use Rattle.lazy.specs.Touching.{AreTouched, AskedBy};
 
     /// The universe of a base, with no request yet. It fails only if memory runs out.
     pub fn new(alloc: Global, base: &Base) -> Result<LazyUniverse, AllocError>
@@ -81,7 +82,15 @@ impl LazyUniverse {
     {
         let moment = reading.max(self.moment);
         let cells = self.touched(alloc, player, req, moment)?;
-        let plan = prepare(alloc, &self.rules, &cells, player, req, moment)?;
+        let plan = prepare(
+            alloc,
+            &self.rules,
+            &self.places,
+            &cells,
+            player,
+            req,
+            moment,
+        )?;
         let (cells, reply) = plan.finish(self.number + 1);
         Ok(Prepared {
             cells,
@@ -101,13 +110,23 @@ impl LazyUniverse {
         requires { KeepsSome self.now }
         ensures { IfOk result (AreTouched self.now player req.now moment) }
     {
-        let Needed::Closed(asked) = asked(alloc, &self.places, &self.cells, player, req)? else {
-            unreachable!()
-        };
-        let Needed::Closed(ids) = needed(alloc, &self.cells, &asked, moment)? else {
+        let wanted = self.wanted(alloc, player, req)?;
+        let Needed::Closed(ids) = needed(alloc, &self.cells, &wanted, moment)? else {
             unreachable!()
         };
         self.cells.pick(alloc, ids.as_slice())
+    }
+
+    // The cells that a request asks for. A player whose account isn't held is none, and asks for nothing.
+    fn wanted(&self, alloc: Global, player: Player, req: &Request) -> Result<Ids, AllocError>
+        requires { KeepsSome self.now }
+        ensures { IfOk result (AskedBy (sees_held self.now.cells) self.now.places player req.now) }
+    {
+        let found = asked(alloc, &self.places, &self.cells, player, req)?;
+        match found {
+            Needed::Closed(ids) => Ok(ids),
+            Needed::Missing(_) => Ok(Ids::new(alloc)),
+        }
     }
 
     /// The request acts that was worked out. It takes no memory.

@@ -2,7 +2,7 @@
 use Rattle.std.proofs.Common.{◌≡◌, ℕ, ◌<◌, ◌+◌, false, List, [], ◌∷◌, map, refl, ap, sym, subst, ◌∙◌, arith}
 use Rattle.std.specs.Prelude.{Some, ◌==◌, if◌then◌else◌, slice_set, Result, Ok, Err, IfOk}
 use Rattle.std.proofs.lemmas.Bool.Decides.{nat_tests}
-use Rattle.account_cell.specs.Account.{KeepsHoldings, KeepsResearch, account_fields, research_item, research_of}
+use Rattle.account_cell.specs.Account.{AreSame as AreSameAccount, KeepsHoldings, KeepsResearch, account_fields, research_item, research_of}
 use Rattle.account_cell.specs.Queue.{new_research, research_ordered, research_placed}
 use Rattle.account_cell.specs.declared.account.Account.{Account}
 use Rattle.base_ids.specs.declared.cell_id.CellId.TheVariants.{Planet as PlanetId}
@@ -11,10 +11,9 @@ use Rattle.catalog.specs.Kinds.{place_in}
 use Rattle.catalog.specs.declared.classes.TheConstants.{WORKS}
 use Rattle.catalog.specs.declared.kind.Kind.{Kind}
 use Rattle.orders.proofs.Left.{batch_joins, building_joins, is_outcome, place_itself, research_joins, same_queues, unchanged}
-use Rattle.orders.specs.Acting.{planet_seen}
 use Rattle.orders.specs.Granting.{IsOutcome, IsSeen, order_line, research_paid}
 use Rattle.orders.specs.declared.parts.Acted.{Acted}
-use Rattle.planet_cell.specs.Planet.{AreSame, batch_item_of, batches_of, buildings_of, fields_of, item_of}
+use Rattle.planet_cell.specs.Planet.{AreSame, batch_item_of, batches_of, buildings_of, fields_of, item_of, queue_of}
 use Rattle.planet_cell.specs.Queue.{new_item, ordered, placed, works_of}
 use Rattle.planet_cell.specs.Yard.{batch_ordered, batch_placed, new_batch, yard_of}
 use Rattle.planet_cell.specs.declared.planet.Planet.{Planet}
@@ -32,7 +31,7 @@ use Rattle.tick_model.specs.declared.rules.Rules.{Rules}
 
 -- `planet C`
 pub shown : (sight : Sight) (rules : Rules) (moment : ℕ) (account : Account) (planet : Planet) (acted : Acted) → IsSeen sight rules moment account planet
-    → acted.code ≡ 0 → acted.body ≡ planet_text rules.speed planet.at (fields_of planet) (planet_seen (Some planet)).queue
+    → acted.code ≡ 0 → acted.body ≡ planet_text rules.speed planet.at (fields_of planet) (queue_of planet)
     → IsOutcome sight 0 (shows sight planet.at (account_fields account) (fields_of planet)) account planet acted
 shown sight rules moment account planet acted seen code body =
     let text : acted.body ≡ planet_text sight.rules.speed planet.at (fields_of planet) (sight.seen (PlanetId planet.at)).queue =
@@ -48,6 +47,7 @@ set sight rules moment account kind tenths old new acted seen code body fields b
     let own : of_planet (record (fields_of old) { tenths = slice_set old.tenths (place_in WORKS kind) tenths }) ≡ of_planet (fields_of new) = ap of_planet (sym fields) in
     is_outcome sight rules moment 0 (sets sight old.at kind tenths (account_fields account) (fields_of old)) account old account new acted seen
     (record {
+      leaves = record { stays = refl; none_sent = refl };
       player = refl;
       at = at;
       account_own = ap (λ (x : View). x.own) seen.account_is;
@@ -73,10 +73,10 @@ refused_is sight rules moment units came code account planet acted seen is told 
     unchanged sight rules moment units (record { code = code; body = [] }) account planet acted seen told body none in
     subst (λ (x : Outcome). IsOutcome sight units x account planet acted) (sym is) outcome
 
-unless_refused : (sight : Sight) (code : ℕ) (grant : Outcome) → 0 < code → unless sight code grant ≡ refused sight code
+pub unless_refused : (sight : Sight) (code : ℕ) (grant : Outcome) → 0 < code → unless sight code grant ≡ refused sight code
 unless_refused sight code grant some = let apart : (code == 0) ≡ false = different code some in rw apart refl
 
-unless_granted : (sight : Sight) (code : ℕ) (grant : Outcome) → code ≡ 0 → unless sight code grant ≡ grant
+pub unless_granted : (sight : Sight) (code : ℕ) (grant : Outcome) → code ≡ 0 → unless sight code grant ≡ grant
 unless_granted sight code grant none = ap (λ (n : ℕ). if n == 0 then grant else refused sight n) none
 
 -- what a building ordered comes to, if its queue has these items
@@ -252,7 +252,7 @@ researched_items sight rules moment old_account account kind (first ∷ later) o
     (ap (λ (x : View). x.own) seen.planet_is ∙ ap of_planet (sym fields)) refl buildings yard keeps.player techs keeps.planets research keeps.units
 
 -- `research C TECH`, granted
-pub researched : (sight : Sight) (rules : Rules) (moment : ℕ) (old_account account : Account) (kind : Kind) (old new : Planet) (acted : Acted) (order : Placed) → IsSeen sight rules moment old_account old
+researched : (sight : Sight) (rules : Rules) (moment : ℕ) (old_account account : Account) (kind : Kind) (old new : Planet) (acted : Acted) (order : Placed) → IsSeen sight rules moment old_account old
     → research_refusal rules.speed (account_fields old_account) (fields_of old) (research_of old_account) kind ≡ 0 → acted.code ≡ 0 → acted.body ≡ order_line order → new.at ≡ old.at
     → order ≡ research_placed rules.speed moment (account_fields old_account) (fields_of old) (research_of old_account) kind
     → fields_of new ≡ research_paid (account_fields old_account) (fields_of old) (research_of old_account) kind → buildings_of new ≡ buildings_of old → batches_of new ≡ batches_of old
@@ -274,6 +274,23 @@ researched sight rules moment old_account account kind old new acted order seen 
     (research ∙ (λ i. research_ordered (speed i) (time i) (account_fields old_account) (fields_of old) items (record (new_research old_account.player old.at kind) { number = number i })))
     techs keeps in
     subst (λ (x : Outcome). IsOutcome sight 0 x account new acted) (sym came) outcome
+
+-- the same, if the order was made on a copy of the account
+pub researched_on_copy : (sight : Sight) (rules : Rules) (moment : ℕ) (old_account copy account : Account) (kind : Kind) (old new : Planet) (acted : Acted) (order : Placed) → IsSeen sight rules moment old_account old
+    → AreSameAccount old_account copy → research_refusal rules.speed (account_fields old_account) (fields_of old) (research_of old_account) kind ≡ 0 → acted.code ≡ 0 → acted.body ≡ order_line order → new.at ≡ old.at
+    → order ≡ research_placed rules.speed moment (account_fields copy) (fields_of old) (research_of copy) kind
+    → fields_of new ≡ research_paid (account_fields old_account) (fields_of old) (research_of old_account) kind → buildings_of new ≡ buildings_of old → batches_of new ≡ batches_of old
+    → research_of account ≡ research_ordered rules.speed moment (account_fields copy) (fields_of old) (research_of copy) (new_research copy.player old.at kind)
+    → account_fields account ≡ account_fields copy → KeepsHoldings copy account
+    → IsOutcome sight 0 (researches sight old_account.player old.at kind (account_fields old_account) (fields_of old)) account new acted
+researched_on_copy sight rules moment old_account copy account kind old new acted order seen same none code body at told fields buildings yard research techs keeps =
+    let fields_same : account_fields copy ≡ account_fields old_account = λ i. record { techs = sym same.techs i } in
+    let items : research_of copy ≡ research_of old_account = λ i. map (research_item (sym same.player i)) (sym same.research i) in
+    researched sight rules moment old_account account kind old new acted order seen none code body at
+    (told ∙ (λ i. research_placed rules.speed moment (fields_same i) (fields_of old) (items i) kind)) fields buildings yard
+    (research ∙ (λ i. research_ordered rules.speed moment (fields_same i) (fields_of old) (items i) (new_research (sym same.player i) old.at kind)))
+    (techs ∙ fields_same)
+    (record { player = keeps.player ∙ sym same.player; planets = keeps.planets ∙ sym same.planets; units = keeps.units ∙ sym same.units })
 
 -- what follows for each value that is there
 pub weaker : {A E : Type 0} (r : Result A E) (P Q : A → Type 0) → ((x : A) → P x → Q x) → IfOk r P → IfOk r Q

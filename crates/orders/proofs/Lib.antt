@@ -1,6 +1,10 @@
 pub mod Answered
+pub mod Burning
 pub mod Fresh
 pub mod Granted
 pub mod Left
 pub mod Listing
 pub mod Paying
+pub mod Recalled
+pub mod Sent
+pub mod Told

@@ -3,12 +3,13 @@ ghost use Rattle.orders.specs.Acting.{Acts, AreKept};
 ghost use Rattle.orders.specs.Granting.{AreCounted, AreHeld, CountsUnits, Follows, IsAtPlace, on_planet};
 ghost use Rattle.orders.specs.Acting.{units_ordered};
 ghost use Rattle.ports.specs.declared.clock.TheConstants.{LATEST};
-ghost use Rattle.request_text.specs.declared.request.Request.TheVariants.{Account as AccountOf};
-ghost use Rattle.tick_model.specs.declared.rules.Rules.{Rules as RulesOf};
 
+use crate::errand::Errand;
 use crate::ordering::{build, order_units, refused, research, set, show};
 use crate::parts::{Acted, Parts};
-use crate::writing::account_lines;
+use crate::recalling::recall;
+use crate::sending::send;
+use crate::telling::{tell_account, tell_fleets, tell_system};
 use account_cell::Account;
 use planet_cell::Planet;
 use request_text::Request;
@@ -18,7 +19,7 @@ use tick_model::{NO_PLANET, NO_PLAYER, NOT_BUILT, NOT_YOURS, Rules};
 /// Acts on a request at a moment of at most 2^40 − 1, by the parts that it asks for, and changes them.
 ///
 /// A request of a form that isn't played is refused with `tick_model::NOT_BUILT`. A request that is refused changes nothing, and
-/// the number of an item that is ordered is 0. It fails only if memory runs out, and then changes nothing.
+/// the number of an item or a fleet that it makes is 0. It fails only if memory runs out, and then changes nothing.
 pub fn act(
     alloc: Global,
     parts: &mut Parts,
@@ -35,10 +36,24 @@ pub fn act(
     if is_at_place(req) {
         return act_at_place(alloc, parts, rules, req, moment);
     }
-    if is_account(req) {
-        return tell(alloc, parts);
+    match req {
+        Request::Account => tell_account(alloc, parts),
+        Request::Fleets => tell_fleets(alloc, parts),
+        Request::System(system) => tell_system(alloc, parts, *system),
+        Request::Recall(number) => recall(alloc, parts, *number, moment),
+        Request::Send(from, to, mission, setting, ships, cargo) => {
+            let errand = Errand {
+                from: *from,
+                to: *to,
+                mission: *mission,
+                setting: *setting,
+                ships: *ships,
+                cargo: *cargo,
+            };
+            send(alloc, parts, rules, &errand, moment)
+        }
+        _ => Ok(refused(alloc, NOT_BUILT)),
     }
-    Ok(refused(alloc, NOT_BUILT))
 }
 
 /// Whether a request is about a planet of the caller's.
@@ -53,27 +68,6 @@ fn is_at_place(req: &Request) -> bool
             | Request::Yard(_, _, _)
             | Request::Set(_, _, _)
     )
-}
-
-/// Whether a request is `account`.
-fn is_account(req: &Request) -> bool
-    ensures { MatchBool result (req.now ≡ AccountOf) (req.now ≡ AccountOf → ⊥) }
-{
-    matches!(req, Request::Account)
-}
-
-/// `account`: the caller's account is shown.
-#[tactic(auto, using(crate::proofs::Answered::told, crate::proofs::Answered::untold))]
-fn tell(alloc: Global, parts: &Parts) -> Result<Acted, AllocError>
-    ensures told { IfOk result (λ acted. (rules : RulesOf) (moment : ℕ) → Acts rules moment AccountOf parts.now parts.now acted) }
-{
-    let Some(account) = &parts.caller else {
-        return Ok(refused(alloc, NO_PLAYER));
-    };
-    Ok(Acted {
-        code: 0,
-        body: account_lines(alloc, account)?,
-    })
 }
 
 /// Acts on a request about a planet of the caller's.

@@ -2,15 +2,22 @@
 #![tactic(auto)]
 
 mod acting;
+mod errand;
+mod links;
 mod ordering;
 mod parts;
 mod queues;
+mod recalling;
 mod researching;
+mod sending;
+mod telling;
 mod writing;
 
 pub use acting::act;
-pub use parts::{Acted, Parts};
-pub use writing::{account_lines, planet_lines};
+pub use parts::{Acted, PartFleets, Parts, SystemPlanet};
+pub use writing::{account_lines, own_fleet_lines, planet_lines};
 
+#[cfg(test)]
+mod fleet_tests;
 #[cfg(test)]
 mod tests;

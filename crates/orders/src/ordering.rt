@@ -31,16 +31,13 @@ pub fn refused(alloc: Global, code: u8) -> Acted
 }
 
 /// `planet C`: the planet is shown.
-#[tactic(auto, using(crate::proofs::Granted::shown))]
 pub fn show(alloc: Global, planet: &Planet, rules: &Rules) -> Result<Acted, AllocError>
     ensures shown { IfOk result (λ acted. (moment : ℕ) (account : AccountOf) → Follows rules.now moment 0
         (λ sight. shows sight planet.now.at (account_fields account) (fields_of planet.now)) account planet.now account planet.now acted) }
     ensures granted { IfOk result (λ acted. acted.code ≡ 0) }
 {
-    Ok(Acted {
-        code: 0,
-        body: planet_lines(alloc, rules.speed, planet)?,
-    })
+    let body = planet_lines(alloc, rules.speed, planet)?;
+    Ok(Acted { code: 0, body })
 }
 
 /// `set C WORK TENTHS`: the work runs at so many tenths.

@@ -1,15 +1,17 @@
-ghost use Rattle.std.specs.Prelude.{◌≤◌, IsTrue, [], replicate};
+ghost use Rattle.std.specs.Prelude.{◌≤◌, IsTrue, [], map, replicate};
 ghost use Rattle.account_cell.specs.Bounds.{AreWithinCaps as AreTechsWithinCaps};
 ghost use Rattle.catalog.specs.declared.amounts.TheConstants.{CAP};
 ghost use Rattle.catalog.specs.declared.ships.TheConstants.{UNITS};
+ghost use Rattle.fleet_rec.specs.Fleet.{fleet_seen};
 ghost use Rattle.orders.specs.Granting.{AreCounted};
 ghost use Rattle.planet_cell.specs.Bounds.{AreWithinCaps};
 ghost use Rattle.ports.specs.declared.clock.TheConstants.{LATEST};
 
-use crate::{Acted, Parts, account_lines, act};
+use crate::{Acted, PartFleets, Parts, account_lines, act};
 use account_cell::Account;
 use base_ids::{Coord, Player};
 use catalog::{CAP, Techs};
+use fleet_rec::{Fleet, Fleets};
 use planet_cell::Planet;
 use ports::LATEST;
 use rates::{GRAINS, Resources};
@@ -63,7 +65,7 @@ fn planet_with(alloc: Global, k: u32, levels: [u8; 11], fields: u16, units: u64)
 
 /// A planet without buildings.
 #[tactic(auto, using(crate::proofs::Fresh::levels_fresh))]
-fn planet(alloc: Global, k: u32, fields: u16, units: u64) -> Planet
+pub fn planet(alloc: Global, k: u32, fields: u16, units: u64) -> Planet
     requires from { 1 ≤ k }
     requires to { k ≤ 65535 }
     requires units { units ≤ CAP }
@@ -79,13 +81,15 @@ fn workshops(alloc: Global, units: u64) -> Planet
     planet_with(alloc, 1, WORKSHOPS, 163, units)
 }
 
-/// The account of player 1, with these technologies and so many units.
-fn account_with(alloc: Global, n: [u8; 14], units: u32) -> Result<Account, AllocError>
+/// The account of a player, with these technologies and so many units.
+pub fn account_with(alloc: Global, k: u32, n: [u8; 14], units: u32) -> Result<Account, AllocError>
+    requires from { 1 ≤ k }
+    requires to { k ≤ 65535 }
     requires levels { AreTechsWithinCaps n [] }
     requires units { units ≤ UNITS }
 {
     Ok(Account {
-        player: Player { k: 1 },
+        player: Player { k },
         techs: Techs { n },
         planets: [HOME].to_vec(alloc)?,
         units,
@@ -96,7 +100,7 @@ fn account_with(alloc: Global, n: [u8; 14], units: u32) -> Result<Account, Alloc
 /// The account of player 1, without technologies and units.
 #[tactic(auto, using(account_cell::proofs::Queues::caps_fresh))]
 fn account(alloc: Global) -> Result<Account, AllocError> {
-    account_with(alloc, [0; 14], 0)
+    account_with(alloc, 1, [0; 14], 0)
 }
 
 /// The same, with technologies and so many units.
@@ -104,15 +108,29 @@ fn account(alloc: Global) -> Result<Account, AllocError> {
 fn learned(alloc: Global, units: u32) -> Result<Account, AllocError>
     requires { units ≤ UNITS }
 {
-    account_with(alloc, LEARNED, units)
+    account_with(alloc, 1, LEARNED, units)
+}
+
+/// These are asked for, and no fleet flies.
+pub fn parts_of(alloc: Global, caller: Option<Account>, from: Option<Planet>) -> Parts {
+    Parts {
+        caller,
+        from,
+        to: None,
+        to_owner: None,
+        fleets: PartFleets {
+            caller: Fleets::new(alloc),
+            from: Fleets::new(alloc),
+            to: Fleets::new(alloc),
+            to_owner: Fleets::new(alloc),
+        },
+        seen: Vec::new(alloc),
+    }
 }
 
 /// Player 1 asks, and this planet stands at the place.
 fn parts(alloc: Global, planet: Planet) -> Result<Parts, AllocError> {
-    Ok(Parts {
-        caller: Some(account(alloc)?),
-        from: Some(planet),
-    })
+    Ok(parts_of(alloc, Some(account(alloc)?), Some(planet)))
 }
 
 /// Whether the caller's account counts the units of the planet.
@@ -120,17 +138,14 @@ fn parts(alloc: Global, planet: Planet) -> Result<Parts, AllocError> {
 fn is_counted(parts: &Parts) -> bool
     ensures { IsTrue result → AreCounted parts.now.caller parts.now.from }
 {
-    let Some(account) = &parts.caller else {
-        return true;
-    };
-    let Some(planet) = &parts.from else {
+    let (Some(account), Some(planet)) = (&parts.caller, &parts.from) else {
         return true;
     };
     planet.unit_total() <= account.units
 }
 
 /// What a line comes to at a moment.
-fn asked(alloc: Global, parts: &mut Parts, line: &[u8], moment: u64) -> Result<Acted, Fail>
+pub fn asked(alloc: Global, parts: &mut Parts, line: &[u8], moment: u64) -> Result<Acted, Fail>
     requires { moment ≤ LATEST }
 {
     let req = Request::read(line).ok_or("no request")?;
@@ -141,7 +156,7 @@ fn asked(alloc: Global, parts: &mut Parts, line: &[u8], moment: u64) -> Result<A
 }
 
 /// A line is refused with this code.
-fn refuses(
+pub fn refuses(
     rt: &impl Abort,
     alloc: Global,
     parts: &mut Parts,
@@ -155,7 +170,7 @@ fn refuses(
 }
 
 /// A line is granted, and answered with this text.
-fn grants(
+pub fn grants(
     rt: &impl Abort,
     alloc: Global,
     parts: &mut Parts,
@@ -187,18 +202,12 @@ fn only_the_caller_is_shown_the_planet(rt: HostRuntime) -> Result<(), Fail> {
 #[test]
 fn who_is_no_player_and_what_is_no_planet_is_told(rt: HostRuntime) -> Result<(), Fail> {
     let alloc = rt.alloc();
-    let mut nobody = Parts {
-        caller: None,
-        from: Some(planet(alloc, 1, 163, 500)),
-    };
+    let mut nobody = parts_of(alloc, None, Some(planet(alloc, 1, 163, 500)));
     refuses(&rt, alloc, &mut nobody, b"planet 1:1:1", NO_PLAYER)?;
     refuses(&rt, alloc, &mut nobody, b"build 1:1:1 metalmine", NO_PLAYER)?;
     refuses(&rt, alloc, &mut nobody, b"research 1:1:1 energy", NO_PLAYER)?;
     refuses(&rt, alloc, &mut nobody, b"account", NO_PLAYER)?;
-    let mut nowhere = Parts {
-        caller: Some(account(alloc)?),
-        from: None,
-    };
+    let mut nowhere = parts_of(alloc, Some(account(alloc)?), None);
     refuses(&rt, alloc, &mut nowhere, b"planet 1:1:1", NO_PLANET)?;
     refuses(
         &rt,
@@ -214,7 +223,8 @@ fn who_is_no_player_and_what_is_no_planet_is_told(rt: HostRuntime) -> Result<(),
         b"yard 1:1:1 launcher 1",
         NO_PLANET,
     )?;
-    refuses(&rt, alloc, &mut nowhere, b"fleets", NOT_BUILT)?;
+    let join = b"join 1 1:1:1 1:1:2 10 smallcargo=1 0 0 0";
+    refuses(&rt, alloc, &mut nowhere, join, NOT_BUILT)?;
     Ok(())
 }
 
@@ -300,7 +310,7 @@ fn an_account_lists_its_technologies_and_planets(rt: HostRuntime) -> Result<(), 
     let alloc = rt.alloc();
     let account = learned(alloc, 12)?;
     let text = b"account 1 12 0 1\ntech energy 3\ntech graviton 1\nplanet 1:1:1\n";
-    assert!(rt; account_lines(alloc, &account)?.as_slice() == text.as_slice());
+    assert!(rt; account_lines(alloc, &account, &Fleets::new(alloc))?.as_slice() == text.as_slice());
     Ok(())
 }
 
@@ -338,10 +348,8 @@ fn a_technology_starts_and_the_next_one_waits(rt: HostRuntime) -> Result<(), Fai
 #[test]
 fn each_refusal_of_units_is_told(rt: HostRuntime) -> Result<(), Fail> {
     let alloc = rt.alloc();
-    let mut own = Parts {
-        caller: Some(learned(alloc, 99_990)?),
-        from: Some(workshops(alloc, 1_000_000)),
-    };
+    let account = learned(alloc, 99_990)?;
+    let mut own = parts_of(alloc, Some(account), Some(workshops(alloc, 1_000_000)));
     refuses(&rt, alloc, &mut own, b"yard 1:1:1 smalldome 2", LEVEL_CAP)?;
     refuses(&rt, alloc, &mut own, b"yard 1:1:1 smalldome 1", REQUIRES)?;
     refuses(&rt, alloc, &mut own, b"yard 1:1:1 launcher 501", POOR)?;
@@ -357,10 +365,8 @@ fn each_refusal_of_units_is_told(rt: HostRuntime) -> Result<(), Fail> {
 #[test]
 fn each_refusal_of_research_is_told(rt: HostRuntime) -> Result<(), Fail> {
     let alloc = rt.alloc();
-    let mut own = Parts {
-        caller: Some(learned(alloc, 0)?),
-        from: Some(workshops(alloc, 10_000)),
-    };
+    let account = learned(alloc, 0)?;
+    let mut own = parts_of(alloc, Some(account), Some(workshops(alloc, 10_000)));
     refuses(&rt, alloc, &mut own, b"research 1:1:1 graviton", LEVEL_CAP)?;
     refuses(&rt, alloc, &mut own, b"research 1:1:1 plasma", REQUIRES)?;
     'items: for _ in 0..5u8 {

@@ -1,6 +1,7 @@
 pub mod Batches
 pub mod Caps
 pub mod Counts
+pub mod Freights
 pub mod Granting
 pub mod Queues
 pub mod Seconds

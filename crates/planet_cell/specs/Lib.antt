@@ -1,4 +1,5 @@
 pub mod Bounds
+pub mod Freight
 pub mod Planet
 pub mod Queue
 pub mod Yard

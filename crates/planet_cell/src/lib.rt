@@ -4,7 +4,9 @@
 mod batch;
 mod batching;
 mod building_item;
+mod departing;
 mod growing;
+mod mooring;
 mod ordering;
 mod paying;
 mod places;
@@ -23,6 +25,8 @@ pub use growing::seconds_add_up;
 pub use places::{place_of, place_of_unit};
 pub use planet::Planet;
 
+#[cfg(test)]
+mod fleet_tests;
 #[cfg(test)]
 mod tests;
 #[cfg(test)]

@@ -14,7 +14,7 @@ use std::alloc::{AllocError, Global};
 pub struct AccountHead {
     pub player: Player,
     pub units: u32,
-    pub fleets: u32,
+    pub fleets: usize,
     pub slots: u32,
 }
 

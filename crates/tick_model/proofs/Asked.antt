@@ -7,39 +7,61 @@ use Rattle.base_ids.specs.declared.player.Player.{Player}
 use Rattle.base_ids.specs.declared.cell_id.CellId.{CellId}
 use Rattle.base_ids.specs.declared.cell_id.CellId.TheVariants.{Account}
 use Rattle.request_text.specs.declared.request.Request.{Request}
-use Rattle.request_text.specs.declared.request.Request.TheVariants.{Planet as PlanetOf, Build, Set}
+use Rattle.request_text.specs.declared.request.Request.TheVariants.{Planet as PlanetOf, Build, Set, Recall}
 use Rattle.tick_model.specs.Requests.{asked, is_listed, names}
-use Rattle.tick_model.specs.Universe.{of_account, of_planet, AccountFields, PlanetFields}
+use Rattle.tick_model.specs.Rules.{IsIn}
+use Rattle.tick_model.specs.Sending.{belongs_out, fleet_of}
+use Rattle.tick_model.specs.Universe.{of_account, of_planet, AccountFields, Fleet, PlanetFields}
 use Rattle.tick_model.specs.Views.{View, nothing_seen, shown}
-use Rattle.tick_model.proofs.Lists.{and-is, cell-is}
+use Rattle.tick_model.proofs.Lists.{and-from, and-is, cell-is, cell-itself, in-any, in-contained}
 use Rattle.tick_model.proofs.Writes.{shown-alike}
 
 -- what the directory is found to have it has
 pub listed-in : (cells : List CellId) (cell : CellId) → is_listed cells cell ≡ true → Contains cells cell
 listed-in cells cell is = Contains-from_any cell-is cell cells is
 
+-- and what it has is found
+pub in-listed : (cells : List CellId) (cell : CellId) → Contains cells cell → is_listed cells cell ≡ true
+in-listed cells cell has = in-any (same_cell cell) cell cells (in-contained cells cell has) (cell-itself cell)
+
 pub asked-in : (cells : List CellId) (seen : CellId → View) (player : Player) (req : Request) (cell : CellId) → asked cells seen player req cell ≡ true → Contains cells cell
 asked-in cells seen player req cell is =
-    let listed = and-is (is_listed cells (Account player) && is_listed cells cell) (same_cell (Account player) cell || names seen req cell) is in
+    let listed = and-is (is_listed cells (Account player) && is_listed cells cell) (same_cell (Account player) cell || names seen player req cell) is in
     listed-in cells cell (and-is (is_listed cells (Account player)) (is_listed cells cell) listed.0).1
 
--- a request names the same places whatever is seen
-names-same : (v w : CellId → View) (req : Request) (cell : CellId) → names v req cell ≡ names w req cell
-names-same v w (PlanetOf at) cell = refl
-names-same v w (Build at building) cell = refl
-names-same v w (Set at work tenths) cell = refl
-names-same v w _ cell = refl
+-- a request names the same cells if the caller has the same fleets
+names-same : (v w : CellId → View) (player : Player) (req : Request) (cell : CellId) → (v (Account player)).fleets ≡ (w (Account player)).fleets → names v player req cell ≡ names w player req cell
+names-same v w player (Recall fleet) cell same = ap (λ fleets. belongs_out cell (fleet_of player fleet.f fleets)) same
+names-same v w player (PlanetOf at) cell same = refl
+names-same v w player (Build at building) cell same = refl
+names-same v w player (Set at work tenths) cell same = refl
+names-same v w player _ cell same = refl
 
 -- so it asks for the same cells
-pub asked-same : (cells : List CellId) (v w : CellId → View) (player : Player) (req : Request) (cell : CellId) → asked cells v player req cell ≡ asked cells w player req cell
-asked-same cells v w player req cell =
-    ap (λ named. is_listed cells (Account player) && is_listed cells cell && (same_cell (Account player) cell || named)) (names-same v w req cell)
+pub asked-same : (cells : List CellId) (v w : CellId → View) (player : Player) (req : Request) (cell : CellId) → (v (Account player)).fleets ≡ (w (Account player)).fleets
+    → asked cells v player req cell ≡ asked cells w player req cell
+asked-same cells v w player req cell same =
+    ap (λ named. is_listed cells (Account player) && is_listed cells cell && (same_cell (Account player) cell || named)) (names-same v w player req cell same)
+
+asked_at : (cells : List CellId) (v w : CellId → View) (player : Player) (req : Request) (cell : CellId) (b : Bool) → is_listed cells (Account player) ≡ b
+    → ((x : CellId) → asked cells v player req x ≡ true → v x ≡ w x) → asked cells v player req cell ≡ asked cells w player req cell
+asked_at cells v w player req cell true listed agree =
+    let caller : asked cells v player req (Account player) ≡ true =
+    and-from (is_listed cells (Account player) && is_listed cells (Account player)) (same_cell (Account player) (Account player) || names v player req (Account player))
+    (and-from (is_listed cells (Account player)) (is_listed cells (Account player)) listed listed) (rw (cell-itself (Account player)) refl) in
+    asked-same cells v w player req cell (ap (λ (seen : View). seen.fleets) (agree (Account player) caller))
+asked_at cells v w player req cell false listed agree = rw listed refl
+
+-- and if all that it asks for looks the same
+pub asked-agree : (cells : List CellId) (v w : CellId → View) (player : Player) (req : Request) (cell : CellId) → ((x : CellId) → asked cells v player req x ≡ true → v x ≡ w x)
+    → asked cells v player req cell ≡ asked cells w player req cell
+asked-agree cells v w player req cell agree = asked_at cells v w player req cell (is_listed cells (Account player)) refl agree
 
 -- equal cells are shown alike
 pub shown-same : (cells : List CellId) (v w : CellId → View) (player : Player) (req : Request) → ((cell : CellId) → asked cells v player req cell ≡ true → v cell ≡ w cell)
     → shown (asked cells v player req) v ≡ shown (asked cells w player req) w
 shown-same cells v w player req agree =
-    let same = fun_ext (asked-same cells v w player req) in
+    let same = fun_ext (λ cell. asked-agree cells v w player req cell agree) in
     shown-alike (asked cells v player req) v w agree ∙ ap (λ some. shown some w) same
 
 shown-planet_at : (b : Bool) (seen : View) (planet : PlanetFields) → (cond b seen nothing_seen).own ≡ of_planet planet → (b ≡ true) × (seen.own ≡ of_planet planet)
@@ -62,3 +84,11 @@ shown-account some seen cell account is = shown-account_at (some cell) (seen cel
 -- what is asked for is shown as it is
 pub shown-there : (some : CellId → Bool) (seen : CellId → View) (cell : CellId) → some cell ≡ true → shown some seen cell ≡ seen cell
 shown-there some seen cell is = ap (λ b. cond b (seen cell) nothing_seen) is
+
+shown-some_at : (b : Bool) (seen : View) (fleet : Fleet) → IsIn fleet (cond b seen nothing_seen).fleets → b ≡ true
+shown-some_at true seen fleet is = refl
+shown-some_at false seen fleet is = absurd is
+
+-- what shows a fleet is asked for
+pub shown-some : (some : CellId → Bool) (seen : CellId → View) (cell : CellId) (fleet : Fleet) → IsIn fleet (shown some seen cell).fleets → some cell ≡ true
+shown-some some seen cell fleet is = shown-some_at (some cell) (seen cell) fleet is

@@ -22,18 +22,18 @@ use Rattle.tick_model.proofs.Staying.{AllStay}
 use Rattle.tick_model.proofs.Writes.{IsWithin, inside, outside, owns_after, shown-alike, shown-own, with_queue, within-queue, write-queue}
 
 -- what cells have of their own, and the queue that was due
-abbrev pub came_own : Rules → Event → (CellId → View) → CellId → Own
-came_own rules (item_due Buildings item later) seen = put_own item.cell (done rules.speed item later (owns seen item.cell)).own (owns seen)
-came_own rules (item_due Researches item later) seen = (researched rules.speed item later (owns seen) (owns seen item.cell)).own
-came_own rules (item_due Yard item later) seen = put_own item.cell (unit_done rules.speed item later (owns seen item.cell)).own (owns seen)
+abbrev pub came_own : Rules → QueueClass → Item → List Item → (CellId → View) → CellId → Own
+came_own rules Buildings item later seen = put_own item.cell (done rules.speed item later (owns seen item.cell)).own (owns seen)
+came_own rules Researches item later seen = (researched rules.speed item later (owns seen) (owns seen item.cell)).own
+came_own rules Yard item later seen = put_own item.cell (unit_done rules.speed item later (owns seen item.cell)).own (owns seen)
 
-abbrev pub came_queue : Rules → Event → (CellId → View) → List Item
-came_queue rules (item_due Buildings item later) seen = (done rules.speed item later (owns seen item.cell)).queue
-came_queue rules (item_due Researches item later) seen = (researched rules.speed item later (owns seen) (owns seen item.cell)).queue
-came_queue rules (item_due Yard item later) seen = (unit_done rules.speed item later (owns seen item.cell)).queue
+abbrev pub came_queue : Rules → QueueClass → Item → List Item → (CellId → View) → List Item
+came_queue rules Buildings item later seen = (done rules.speed item later (owns seen item.cell)).queue
+came_queue rules Researches item later seen = (researched rules.speed item later (owns seen) (owns seen item.cell)).queue
+came_queue rules Yard item later seen = (unit_done rules.speed item later (owns seen item.cell)).queue
 
 change-is : (rules : Rules) (class : QueueClass) (item : Item) (later : List Item) (seen : CellId → View)
-    → event_change rules (item_due class item later) seen ≡ new_queue (came_own rules (item_due class item later) seen) item.cell class (came_queue rules (item_due class item later) seen)
+    → event_change rules (item_due class item later) seen ≡ new_queue (came_own rules class item later seen) item.cell class (came_queue rules class item later seen)
 change-is rules Buildings item later seen = refl
 change-is rules Researches item later seen = refl
 change-is rules Yard item later seen = refl
@@ -47,15 +47,15 @@ abbrev pub after : Setting → QueueClass → Item → List Item → State → S
 after setting class item later state =
     let event = item_due class item later in
     let seen = seen_of setting event state in
-    with_queue (owns_after (footprint event) (came_own setting.rules event seen) state) item.cell class (came_queue setting.rules event seen) state
+    with_queue (owns_after (footprint event) (came_own setting.rules class item later seen) state) item.cell class (came_queue setting.rules class item later seen) state
 
 pub effect-is : (setting : Setting) (class : QueueClass) (item : Item) (later : List Item) (state : State)
     → effect setting (item_due class item later) state ≡ after setting class item later state
 effect-is setting class item later state =
     let event = item_due class item later in
     let seen = seen_of setting event state in
-    let own = came_own setting.rules event seen in
-    let queue = came_queue setting.rules event seen in
+    let own = came_own setting.rules class item later seen in
+    let queue = came_queue setting.rules class item later seen in
     ap (λ change. write (footprint event) change state) (change-is setting.rules class item later seen)
     ∙ write-queue (footprint event) own item.cell class queue state
 
@@ -72,7 +72,7 @@ shown-home setting class item later state = shown-own setting.cells (footprint (
 
 -- its queue
 pub event-ends : (setting : Setting) (state : State) (class : QueueClass) (item : Item) (later : List Item) → KeepsRules setting state → StandsBy state class item later
-    → Ends class item later (came_queue setting.rules (item_due class item later) (seen_of setting (item_due class item later) state))
+    → Ends class item later (came_queue setting.rules class item later (seen_of setting (item_due class item later) state))
 event-ends setting state Buildings item later fine stands = (building-ends setting.rules.speed item later (owns (seen_of setting (item_due Buildings item later) state) item.cell)).0
 event-ends setting state Researches item later fine stands =
     let own = owns (seen_of setting (item_due Researches item later) state) in
@@ -82,7 +82,7 @@ event-ends setting state Yard item later fine stands =
 
 -- a level that is done leaves what cells have of their own alike
 level-alike : (setting : Setting) (state : State) (class : QueueClass) (item : Item) (later : List Item) → (class ≡ Yard → ⊥)
-    → (x : CellId) → IsAlike (owns (seen_of setting (item_due class item later) state) x) (came_own setting.rules (item_due class item later) (seen_of setting (item_due class item later) state) x)
+    → (x : CellId) → IsAlike (owns (seen_of setting (item_due class item later) state) x) (came_own setting.rules class item later (seen_of setting (item_due class item later) state) x)
 level-alike setting state Buildings item later level x =
     let own = owns (seen_of setting (item_due Buildings item later) state) in
     put-alike item.cell (done setting.rules.speed item later (own item.cell)).own own own (building-ends setting.rules.speed item later (own item.cell)).1 (λ y. alike-itself (own y)) x
@@ -91,7 +91,7 @@ level-alike setting state Researches item later level x =
     (research-ends setting.rules.speed item later own (own item.cell) refl).1 x
 level-alike setting state Yard item later level x = absurd (level refl)
 
-put-stays : (cell : CellId) (new : Own) (own : CellId → Own) → Stays (own cell) new → (x : CellId) → Stays (own x) (put_own cell new own x)
+pub put-stays : (cell : CellId) (new : Own) (own : CellId → Own) → Stays (own cell) new → (x : CellId) → Stays (own x) (put_own cell new own x)
 put-stays cell new own here x =
     elim (same_cell cell x) as (λ b. same_cell cell x ≡ b → Stays (own x) (cond b new (own x))) [
       | true ↦ λ same. subst (λ y. Stays (own y) new) (cell-is cell x same) here
@@ -100,7 +100,7 @@ put-stays cell new own here x =
 
 -- and a unit that is done lets them stay
 came-stays : (setting : Setting) (state : State) (class : QueueClass) (item : Item) (later : List Item)
-    → (x : CellId) → Stays (owns (seen_of setting (item_due class item later) state) x) (came_own setting.rules (item_due class item later) (seen_of setting (item_due class item later) state) x)
+    → (x : CellId) → Stays (owns (seen_of setting (item_due class item later) state) x) (came_own setting.rules class item later (seen_of setting (item_due class item later) state) x)
 came-stays setting state Buildings item later x = alike-stays _ _ (level-alike setting state Buildings item later (λ yard. absurd cc) x)
 came-stays setting state Researches item later x = alike-stays _ _ (level-alike setting state Researches item later (λ yard. absurd cc) x)
 came-stays setting state Yard item later x =
@@ -111,7 +111,7 @@ came-stays setting state Yard item later x =
 pub event-stays : (setting : Setting) (state : State) (class : QueueClass) (item : Item) (later : List Item) → AllStay state.own (after setting class item later state).own
 event-stays setting state class item later x =
     let event = item_due class item later in
-    let own = came_own setting.rules event (seen_of setting event state) in
+    let own = came_own setting.rules class item later (seen_of setting event state) in
     elim (test (footprint event x)) [
       | inl has ↦
           subst (λ new. Stays (state.own x) new) (sym (ap (λ b. cond b (own x) (state.own x)) has))
@@ -121,7 +121,7 @@ event-stays setting state class item later x =
 
 -- the new queue is a queue of the same cell
 pub still-there : (setting : Setting) (state : State) (class : QueueClass) (item : Item) (later : List Item) → KeepsRules setting state → StandsBy state class item later
-    → (x : Item) → IsIn x (came_queue setting.rules (item_due class item later) (seen_of setting (item_due class item later) state)) → stands_in item.cell class x ≡ true
+    → (x : Item) → IsIn x (came_queue setting.rules class item later (seen_of setting (item_due class item later) state)) → stands_in item.cell class x ≡ true
 still-there setting state class item later fine stands x has =
     let found = follows-in (item ∷ later) _ (event-ends setting state class item later fine stands).follows x has in
     let old = queued state class item.cell item later stands found.0 found.1 in
@@ -129,19 +129,19 @@ still-there setting state class item later fine stands x has =
 
 -- and it is what its cell shows
 pub queue-after : (setting : Setting) (state : State) (class : QueueClass) (item : Item) (later : List Item) → KeepsRules setting state → StandsBy state class item later
-    → queue_in (after setting class item later state).items item.cell class ≡ came_queue setting.rules (item_due class item later) (seen_of setting (item_due class item later) state)
+    → queue_in (after setting class item later state).items item.cell class ≡ came_queue setting.rules class item later (seen_of setting (item_due class item later) state)
 queue-after setting state class item later fine stands =
     let event = item_due class item later in
-    queue-new (owns_after (footprint event) (came_own setting.rules event (seen_of setting event state)) state) item.cell class
-    (came_queue setting.rules event (seen_of setting event state)) state (still-there setting state class item later fine stands)
+    queue-new (owns_after (footprint event) (came_own setting.rules class item later (seen_of setting event state)) state) item.cell class
+    (came_queue setting.rules class item later (seen_of setting event state)) state (still-there setting state class item later fine stands)
 
 -- the other queues stay
 pub other-queue : (setting : Setting) (state : State) (class : QueueClass) (item : Item) (later : List Item) (cell : CellId) (kind : QueueClass) → KeepsRules setting state → StandsBy state class item later
     → (same_cell item.cell cell && same_class class kind) ≡ false → queue_in (after setting class item later state).items cell kind ≡ queue_in state.items cell kind
 other-queue setting state class item later cell kind fine stands apart =
     let event = item_due class item later in
-    queue-other (owns_after (footprint event) (came_own setting.rules event (seen_of setting event state)) state) item.cell cell class kind
-    (came_queue setting.rules event (seen_of setting event state)) state apart (still-there setting state class item later fine stands)
+    queue-other (owns_after (footprint event) (came_own setting.rules class item later (seen_of setting event state)) state) item.cell cell class kind
+    (came_queue setting.rules class item later (seen_of setting event state)) state apart (still-there setting state class item later fine stands)
 
 and-no : (a b : Bool) → b ≡ false → a && b ≡ false
 and-no true b is = is
@@ -152,7 +152,7 @@ level-counted : (setting : Setting) (state : State) (class : QueueClass) (item :
     → (x : CellId) → footprint (item_due class item later) x ≡ true → holding_at (after setting class item later state) x ≡ holding_at state x
 level-counted setting state class item later fine stands level apart x has =
     let event = item_due class item later in
-    let own = came_own setting.rules event (seen_of setting event state) in
+    let own = came_own setting.rules class item later (seen_of setting event state) in
     let alike = subst (λ old. IsAlike old (own x)) (shown-own setting.cells (footprint event) state x has) (level-alike setting state class item later level x) in
     let here : (after setting class item later state).own x ≡ own x = ap (λ b. cond b (own x) (state.own x)) has in
     let queue = other-queue setting state class item later x Yard fine stands (and-no (same_cell item.cell x) (same_class class Yard) apart) in
@@ -173,10 +173,10 @@ unit-counts setting state item later fine stands =
     let home_own = shown-home setting Yard item later state in
     let here = queued state Yard item.cell item later stands item (inl refl) in
     let batch = batch-is item.class item here.class_is (fine.placed item here.within).batch in
-    let put : came_own setting.rules event seen item.cell ≡ (unit_done setting.rules.speed item later (owns seen item.cell)).own =
+    let put : came_own setting.rules Yard item later seen item.cell ≡ (unit_done setting.rules.speed item later (owns seen item.cell)).own =
     ap (λ b. cond b (unit_done setting.rules.speed item later (owns seen item.cell)).own (owns seen item.cell)) (cell-itself item.cell) in
     let own : (after setting Yard item later state).own item.cell ≡ (unit_done setting.rules.speed item later (owns seen item.cell)).own =
-    ap (λ b. cond b (came_own setting.rules event seen item.cell) (state.own item.cell)) (has-home Yard item later) ∙ put in
+    ap (λ b. cond b (came_own setting.rules Yard item later seen item.cell) (state.own item.cell)) (has-home Yard item later) ∙ put in
     let queue = queue-after setting state Yard item later fine stands in
     let counted = unit-counted setting.rules.speed item later (owns seen item.cell) batch.0 batch.1 (λ planet is. fine.kinds item.cell planet (sym home_own ∙ is)) in
     (λ i. holding (own i) (queue i)) ∙ counted ∙ (λ i. holding (home_own i) (sym stands i))
@@ -190,37 +190,16 @@ event-counted setting state Yard item later fine stands x has =
     subst (λ y. holding_at (after setting Yard item later state) y ≡ holding_at state y) home (unit-counts setting state item later fine stands)
 
 pub event-within : (setting : Setting) (state : State) (class : QueueClass) (item : Item) (later : List Item) → KeepsRules setting state → StandsBy state class item later
-    → IsWithin (footprint (item_due class item later)) (event_change setting.rules (item_due class item later) (seen_of setting (item_due class item later) state)) state
+    → IsWithin (footprint (item_due class item later)) (footprint (item_due class item later)) (event_change setting.rules (item_due class item later) (seen_of setting (item_due class item later) state)) state
 event-within setting state class item later fine stands =
     let event = item_due class item later in
     let seen = seen_of setting event state in
-    let own = came_own setting.rules event seen in
-    subst (λ change. IsWithin (footprint event) change state) (sym (change-is setting.rules class item later seen))
-    (within-queue (footprint event) own item.cell class (came_queue setting.rules event seen) state (has-home class item later)
+    let own = came_own setting.rules class item later seen in
+    subst (λ change. IsWithin (footprint event) (footprint event) change state) (sym (change-is setting.rules class item later seen))
+    (within-queue (footprint event) (footprint event) own item.cell class (came_queue setting.rules class item later seen) state (has-home class item later)
     (record {
+      among = λ x has. has;
       owners = λ x has. stays-owner (owns seen x) (own x) (came-stays setting state class item later x) ∙ ap owner_of (shown-own setting.cells (footprint event) state x has);
       counted = λ x has. inl (event-counted setting state class item later fine stands x has);
     })
     (still-there setting state class item later fine stands))
-
--- a cell that the event doesn't need is seen as before
-pub event-outside : (setting : Setting) (state : State) (event : Event) (x : CellId) → KeepsRules setting state → Owes (view setting.cells state (home event)) event → footprint event x ≡ false
-    → view setting.cells (effect setting event state) x ≡ view setting.cells state x
-event-outside setting state (item_due class item later) x fine stands out =
-    let event = item_due class item later in
-    outside setting.cells (footprint event) (event_change setting.rules event (seen_of setting event state)) state x (event-within setting state class item later fine stands) out
-
--- and of a cell that it needs, what is seen depends on what was seen of those cells
-pub event-depends : (setting : Setting) (one other : State) (event : Event) → KeepsRules setting one → KeepsRules setting other → Owes (view setting.cells one (home event)) event
-    → Owes (view setting.cells other (home event)) event
-    → ((x : CellId) → footprint event x ≡ true → view setting.cells one x ≡ view setting.cells other x)
-    → (x : CellId) → footprint event x ≡ true → view setting.cells (effect setting event one) x ≡ view setting.cells (effect setting event other) x
-event-depends setting one other (item_due class item later) fine fine' stands stands' agree x has =
-    let event = item_due class item later in
-    let cells = footprint event in
-    let change = event_change setting.rules event (seen_of setting event one) in
-    let same : event_change setting.rules event (seen_of setting event other) ≡ change =
-    ap (event_change setting.rules event) (sym (shown-alike cells (view setting.cells one) (view setting.cells other) agree)) in
-    let second = subst (λ c. IsWithin cells c other) same (event-within setting other class item later fine' stands') in
-    inside setting.cells cells change one other (record { first = event-within setting one class item later fine stands; second = second; agree = agree }) x has
-    ∙ ap (λ c. view setting.cells (write cells c other) x) (sym same)

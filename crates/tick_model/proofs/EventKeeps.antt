@@ -1,5 +1,5 @@
 -- An event keeps the rules, and lowers how many can still come.
-use Rattle.std.proofs.Common.{◌≡◌, ℕ, ◌+◌, ◌<◌, ◌≤◌, inl, inr, Bool, true, false, not, cond, ◌&&◌, List, [], ◌∷◌, ◌++◌, length, filter, arith, refl, ap, ◌∙◌, sym, subst}
+use Rattle.std.proofs.Common.{◌≡◌, ℕ, ◌+◌, ◌<◌, ◌≤◌, inl, inr, Bool, true, false, not, cond, eqb, ◌&&◌, List, [], ◌∷◌, ◌++◌, Option, None, Some, length, filter, if◌then◌else◌, arith, refl, ap, ◌∙◌, sym, subst}
 use Rattle.std.proofs.lemmas.List.Sums.{sum_by-append, sum_by-cons}
 use Rattle.base_ids.specs.Cells.{same_cell}
 use Rattle.base_ids.specs.declared.cell_id.CellId.{CellId}
@@ -8,16 +8,21 @@ use Rattle.catalog.specs.Kinds.{place_in}
 use Rattle.catalog.specs.declared.classes.TheConstants.{UNIT_KINDS}
 use Rattle.catalog.specs.declared.kind.Kind.{Kind}
 use Rattle.laziness.proofs.Bringing.{test, never}
-use Rattle.tick_model.specs.Events.{Event, item_due, Owes, effect, home}
-use Rattle.tick_model.specs.Game.{events_left}
-use Rattle.tick_model.specs.Rules.{AreDistinct, IsBatch, IsIn, IsPlaced, KeepsRules, queue_cell, same_order}
-use Rattle.tick_model.specs.Universe.{QueueClass, Buildings, Researches, Yard, Item, Setting, State, same_class}
+use Rattle.reply_text.specs.declared.units.Units.{Units}
+use Rattle.tick_model.specs.Changes.{owns}
+use Rattle.tick_model.specs.Events.{Event, item_due, lands, Owes, effect, home}
+use Rattle.tick_model.specs.Flights.{back_at, landing, turned, turns}
+use Rattle.tick_model.specs.Game.{events_left, landings_left}
+use Rattle.tick_model.specs.Rules.{AreDistinct, IsBatch, IsFlying, IsIn, IsPlaced, KeepsRules, queue_cell, same_order}
+use Rattle.tick_model.specs.Universe.{QueueClass, Buildings, Researches, Yard, Fleet, Item, Setting, State, same_class}
 use Rattle.tick_model.specs.Views.{queue_in, stands_in, view}
 use Rattle.tick_model.proofs.Effects.{StandsBy, after, came_queue, effect-is, event-ends, event-stays, other-queue, queue-after, seen_of}
 use Rattle.tick_model.proofs.Follows.{IsOrderOf, follows-distinct, follows-in, order-itself, same-order}
-use Rattle.tick_model.proofs.Lists.{and-is, cell-is, class-is, distinct-append, distinct-filter, distinct-one, fails, from-filter, in-append, not-true}
+use Rattle.tick_model.proofs.Landings.{after_landing, back-out, came_landed, flies-in, landing-is, landing-stays, sum-changed, turns-number, weight}
+use Rattle.tick_model.proofs.Lists.{and-is, apart-changed, cell-is, class-is, distinct-append, distinct-filter, distinct-one, fails, from-changed, from-filter, in-append, not-true}
 use Rattle.tick_model.proofs.Queues.{queued}
-use Rattle.tick_model.proofs.Staying.{placed-still, stay-kinds, stay-listed, stay-owned}
+use Rattle.tick_model.proofs.Writes.{became_at}
+use Rattle.tick_model.proofs.Staying.{flying-still, placed-still, stay-kinds, stay-listed, stay-owned}
 
 -- an order in place of another is in the queue of the right cell too
 some-batch : (class : QueueClass) (old new : Item) → IsOrderOf old new → IsBatch class old → IsBatch class new
@@ -39,7 +44,7 @@ module _ (setting : Setting) (state : State) (class : QueueClass) (item : Item) 
   after-in : (x : Item) → IsIn x (after setting class item later state).items → (old : Item) × IsIn old state.items × IsOrderOf old x
   after-in x has =
       let kept = λ (y : Item). not (stands_in item.cell class y) in
-      let queue = came_queue setting.rules (item_due class item later) (seen_of setting (item_due class item later) state) in
+      let queue = came_queue setting.rules class item later (seen_of setting (item_due class item later) state) in
       elim (in-append x (filter kept state.items) queue has) [
         | inl other ↦ (x, (from-filter kept x state.items other).0, order-itself x)
         | inr new ↦
@@ -49,9 +54,9 @@ module _ (setting : Setting) (state : State) (class : QueueClass) (item : Item) 
 
   -- an item of another queue is of another class or has another number than the items of the new queue
   after-apart : (a b : Item) → IsIn a state.items → stands_in item.cell class a ≡ false
-      → IsIn b (came_queue setting.rules (item_due class item later) (seen_of setting (item_due class item later) state)) → same_order a b ≡ false
+      → IsIn b (came_queue setting.rules class item later (seen_of setting (item_due class item later) state)) → same_order a b ≡ false
   after-apart a b has_a other has_b =
-      let queue = came_queue setting.rules (item_due class item later) (seen_of setting (item_due class item later) state) in
+      let queue = came_queue setting.rules class item later (seen_of setting (item_due class item later) state) in
       let found = follows-in (item ∷ later) queue (event-ends setting state class item later fine stands).follows b has_b in
       let old = queued state class item.cell item later stands found.0 found.1 in
       fails (same_order a b) (λ same.
@@ -60,7 +65,7 @@ module _ (setting : Setting) (state : State) (class : QueueClass) (item : Item) 
 
   after-distinct : AreDistinct (after setting class item later state).items
   after-distinct =
-      let queue = came_queue setting.rules (item_due class item later) (seen_of setting (item_due class item later) state) in
+      let queue = came_queue setting.rules class item later (seen_of setting (item_due class item later) state) in
       let kept = λ (y : Item). not (stands_in item.cell class y) in
       let follows = (event-ends setting state class item later fine stands).follows in
       let there = subst AreDistinct stands (distinct-filter (stands_in item.cell class) state.items fine.distinct) in
@@ -88,6 +93,7 @@ module _ (setting : Setting) (state : State) (class : QueueClass) (item : Item) 
       let stay = event-stays setting state class item later in
       record {
         listed = stay-listed setting new.own state stay fine;
+        once = fine.once;
         owned = stay-owned setting new.own state stay fine;
         kinds = stay-kinds setting new.own state stay fine;
         placed = λ x has.
@@ -100,6 +106,61 @@ module _ (setting : Setting) (state : State) (class : QueueClass) (item : Item) 
             omega (arith, same, low);
         distinct = after-distinct;
         paced = after-paced;
+        flying = λ fleet is. flying-still state new fleet stay (fine.flying fleet is);
+        sent = fine.sent;
+        apart = fine.apart;
+      }
+
+-- a fleet that has turned back flies between the same planets
+pub turned-flies : (state : State) (fleet : Fleet) (second : ℕ) (cargo : Units) → IsFlying state fleet → IsFlying state (turned fleet second cargo)
+turned-flies state fleet second cargo flying = record {
+  from = flying.from;
+  leaves = flying.leaves;
+  is_own = flying.is_own;
+  to = flying.to;
+  reaches = flying.reaches;
+  is_theirs = flying.is_theirs;
+  kinds = flying.kinds;
+  later = λ out. absurd cc;
+  deployed = flying.deployed;
+}
+
+became-flies : (state : State) (back : Option Units) (old new : Fleet) (b : Bool) → cond b (turns back old) (Some old) ≡ Some new → IsFlying state old → IsFlying state new
+became-flies state None old new true is flying = absurd cc
+became-flies state (Some cargo) old new true is flying =
+    let same : turned old (back_at old) cargo ≡ new = cc in
+    subst (IsFlying state) same (turned-flies state old (back_at old) cargo flying)
+became-flies state back old new false is flying = let same : old ≡ new = cc in subst (IsFlying state) same flying
+
+became-number : (back : Option Units) (old new : Fleet) (b : Bool) → cond b (turns back old) (Some old) ≡ Some new → new.number ≡ old.number
+became-number back old new true is = turns-number back old new is
+became-number back old new false is = let same : old ≡ new = cc in ap (λ (f : Fleet). f.number) (sym same)
+
+module _ (setting : Setting) (state : State) (fleet : Fleet) (fine : KeepsRules setting state) where
+  landing-keeps : KeepsRules setting (after_landing setting fleet state)
+  landing-keeps =
+      let new = after_landing setting fleet state in
+      let back = (came_landed fleet (seen_of setting (lands fleet) state)).back in
+      let stay = landing-stays setting state fleet in
+      record {
+        listed = stay-listed setting new.own state stay fine;
+        once = fine.once;
+        owned = stay-owned setting new.own state stay fine;
+        kinds = stay-kinds setting new.own state stay fine;
+        placed = λ item is. placed-still state new item stay (fine.placed item is);
+        drawn = fine.drawn;
+        distinct = fine.distinct;
+        paced = fine.paced;
+        flying = λ flown is.
+            let found = from-changed (became_at fleet.number (turns back)) flown state.fleets is in
+            flying-still state new flown stay (became-flies state back found.0 flown (eqb found.0.number fleet.number) found.2 (fine.flying found.0 found.1));
+        sent = λ flown is.
+            let found = from-changed (became_at fleet.number (turns back)) flown state.fleets is in
+            let number = became-number back found.0 flown (eqb found.0.number fleet.number) found.2 in
+            let low = fine.sent found.0 found.1 in
+            omega (arith, number, low);
+        apart = apart-changed (became_at fleet.number (turns back)) state.fleets
+            (λ old flown is. became-number back old flown (eqb old.number fleet.number) is) fine.apart;
       }
 
 -- the rules are kept
@@ -107,6 +168,8 @@ pub event-keeps : (setting : Setting) (state : State) (event : Event) → Owes (
     → KeepsRules setting (effect setting event state)
 event-keeps setting state (item_due class item later) stands fine =
     subst (KeepsRules setting) (sym (effect-is setting class item later state)) (after-keeps setting state class item later fine stands)
+event-keeps setting state (lands fleet) stands fine =
+    subst (KeepsRules setting) (sym (landing-is setting fleet state)) (landing-keeps setting state fleet fine)
 
 -- Events that can still come, of the items of a queue and of all others.
 
@@ -128,15 +191,43 @@ left-parts p (x ∷ items) =
       | false ↦ part-no p x (events_left items) (events_left yes) (events_left no) rest ∙ ap (λ n. events_left yes + n) (sym (sum_by-cons f x no))
     ]
 
+-- how often a fleet can still land
+abbrev left_of : Fleet → ℕ
+left_of fleet = if fleet.outbound then 2 else 1
+
+fewer-landings : (fleet : Fleet) (b : Bool) → fleet.outbound ≡ b → (back : Option Units) → ((cargo : Units) → back ≡ Some cargo → b ≡ true) → weight left_of (turns back fleet) < left_of fleet
+fewer-landings fleet true out None only = rw out (omega arith)
+fewer-landings fleet true out (Some cargo) only = rw out (omega arith)
+fewer-landings fleet false out None only = rw out (omega arith)
+fewer-landings fleet false out (Some cargo) only = absurd (never true refl (sym (only cargo refl)))
+
+less-so : (a b c d : ℕ) → a + b ≡ c + d → d < b → a < c
+less-so a b c d sum less = omega (arith, sum, less)
+
+landings-fall : (setting : Setting) (state : State) (fleet : Fleet) → KeepsRules setting state → IsIn fleet state.fleets → landings_left (after_landing setting fleet state).fleets < landings_left state.fleets
+landings-fall setting state fleet fine flies =
+    let came = came_landed fleet (seen_of setting (lands fleet) state) in
+    let changed = sum-changed left_of fleet (turns came.back) state.fleets fine.apart flies in
+    let less = fewer-landings fleet fleet.outbound refl came.back (back-out fleet (owns (seen_of setting (lands fleet) state) (Planet (landing fleet)))) in
+    less-so _ (left_of fleet) _ (weight left_of (turns came.back fleet)) changed less
+
 -- fewer can come after it
 pub event-falls : (setting : Setting) (state : State) (event : Event) → KeepsRules setting state → Owes (view setting.cells state (home event)) event
-    → events_left (effect setting event state).items < events_left state.items
+    → events_left (effect setting event state).items + landings_left (effect setting event state).fleets < events_left state.items + landings_left state.fleets
 event-falls setting state (item_due class item later) fine stands =
-    let queue = came_queue setting.rules (item_due class item later) (seen_of setting (item_due class item later) state) in
+    let queue = came_queue setting.rules class item later (seen_of setting (item_due class item later) state) in
     let others = filter (λ (x : Item). not (stands_in item.cell class x)) state.items in
     let all = left-parts (stands_in item.cell class) state.items in
     let gone : events_left (filter (stands_in item.cell class) state.items) ≡ events_left (item ∷ later) = ap events_left stands in
     let less = (event-ends setting state class item later fine stands).falls in
     let both = sum_by-append (λ (x : Item). 1 + x.left) others queue in
     let new : events_left (effect setting (item_due class item later) state).items ≡ events_left (others ++ queue) = ap (λ new. events_left new.items) (effect-is setting class item later state) in
-    omega (arith, all, gone, less, both, new)
+    let fleets : landings_left (effect setting (item_due class item later) state).fleets ≡ landings_left state.fleets =
+    ap (λ new. landings_left new.fleets) (effect-is setting class item later state) in
+    omega (arith, all, gone, less, both, new, fleets)
+event-falls setting state (lands fleet) fine stands =
+    let items : events_left (effect setting (lands fleet) state).items ≡ events_left state.items = ap (λ new. events_left new.items) (landing-is setting fleet state) in
+    let fleets : landings_left (effect setting (lands fleet) state).fleets ≡ landings_left (after_landing setting fleet state).fleets =
+    ap (λ new. landings_left new.fleets) (landing-is setting fleet state) in
+    let less = landings-fall setting state fleet fine (flies-in setting.cells state (home (lands fleet)) fleet stands) in
+    omega (arith, items, fleets, less)

@@ -1,30 +1,42 @@
 -- The laws of gains, events and their order, for the game as it ticks: each is named as the field of laziness/specs/Laws,
 -- ModelLaws, that it gives for the model `game setting`.
-use Rattle.std.proofs.Common.{◌≡◌, ℕ, ◌+◌, ◌<◌, ◌≤◌, ◌⊎◌, inl, inr, Bool, true, false, nat_le, ◌&&◌, ◌||◌, List, [], ◌∷◌, None, Some, refl, ap, ◌∙◌, sym, subst}
+use Rattle.std.proofs.Common.{◌≡◌, ℕ, ◌+◌, ◌<◌, ◌≤◌, ◌⊎◌, inl, inr, Bool, true, false, nat_le, ◌&&◌, ◌||◌, cond, eqb, filter, arith, List, [], ◌∷◌, Option, None, Some, refl, ap, ◌∙◌, sym, subst}
 use Rattle.std.specs.List.{list_any}
 use Rattle.base_ids.specs.Cells.{same_cell}
+use Rattle.base_ids.specs.declared.player.Player.{Player}
 use Rattle.base_ids.specs.Order.{key_before}
 use Rattle.base_ids.specs.declared.cell_id.CellId.{CellId}
 use Rattle.base_ids.specs.declared.cell_id.CellId.TheVariants.{Account, Planet}
+use Rattle.request_text.specs.declared.request.Request.{Request}
+use Rattle.request_text.specs.declared.request.Request.TheVariants.{Recall}
+use Rattle.reply_text.specs.declared.units.Units.{Units}
 use Rattle.request_text.specs.declared.entry.Entry.{Entry}
 use Rattle.laziness.proofs.Bringing.{never, test}
 use Rattle.laziness.specs.Laws.{Agree, ComesFrom, IsClosed, IsNext, NoneDue, Stands}
-use Rattle.tick_model.specs.Events.{Event, item_due, Owes, effect, footprint, home as home_of, is_payer, key_of, next_event, second_of}
-use Rattle.tick_model.specs.Game.{brings, events_left, game, own_brings, research_brings}
+use Rattle.tick_model.specs.Events.{Event, item_due, lands, Owes, effect, footprint, home as home_of, is_payer, key_of, next_event, second_of}
+use Rattle.tick_model.specs.Game.{brings, events_left, fleets_bring, game, landings_left, own_brings, research_brings}
+use Rattle.tick_model.specs.Changes.{owns}
+use Rattle.tick_model.specs.Flights.{back_at, landing, turned, turns}
 use Rattle.tick_model.specs.Production.{advance, gains}
-use Rattle.tick_model.specs.Requests.{asked}
-use Rattle.tick_model.specs.Rules.{IsIn, KeepsRules, queue_cell}
-use Rattle.tick_model.specs.Universe.{of_planet, QueueClass, Buildings, Researches, Yard, Item, Setting, State, same_class}
-use Rattle.tick_model.specs.Views.{View, queue_in, view}
+use Rattle.tick_model.specs.Requests.{asked, is_listed, names}
+use Rattle.tick_model.specs.Sending.{belongs_out, fleet_of}
+use Rattle.tick_model.specs.Rules.{AreApart, IsFlying, IsIn, KeepsRules, queue_cell}
+use Rattle.tick_model.specs.Universe.{of_planet, QueueClass, Buildings, Researches, Yard, Fleet, Item, Setting, State, same_class}
+use Rattle.tick_model.specs.Views.{View, belongs, queue_in, view}
 use Rattle.tick_model.proofs.Asked.{asked-same}
-use Rattle.tick_model.proofs.Effects.{after, effect-is, event-depends, event-ends, event-outside, event-stays, has-home, other-queue, queue-after}
+use Rattle.tick_model.proofs.Brought.{BringsBy, by_fleet, by_owner, by_research, brings-by, brings-fleet, brings-own, brings-research}
+use Rattle.tick_model.proofs.Effects.{after, effect-is, event-ends, event-stays, has-home, other-queue, queue-after, seen_of}
 use Rattle.tick_model.proofs.EventKeeps.{event-falls, event-keeps}
+use Rattle.tick_model.proofs.Fleets.{apart-filter, flies-out, out-flies}
+use Rattle.tick_model.proofs.Footprints.{event-depends, event-outside}
 use Rattle.tick_model.proofs.Follows.{Follows, follows-rest}
 use Rattle.tick_model.proofs.Gains.{advance-asked, advance-keeps, gains-bring, gains-owe, gains-owed, more-gained, none-gained, view-advanced}
 use Rattle.tick_model.proofs.Keys.{key-later, key-sooner}
-use Rattle.tick_model.proofs.Lists.{and-from, and-is, any-in, cell-from, cell-is, class-is, fails, in-any}
+use Rattle.tick_model.proofs.Landings.{after_landing, back-out, came_landed, flies-in, landing-belongs, landing-is, landing-stays, turns-belongs}
+use Rattle.tick_model.proofs.Lists.{and-from, and-is, any-in, cell-from, cell-is, class-is, fails, fleet-one, from-changed, from-filter, in-any, in-changed, in-filter, number-is, or-first, or-is, or-second}
 use Rattle.tick_model.proofs.Nexts.{found-next, found-none, le-is}
 use Rattle.tick_model.proofs.Owns.{brings-same, stays-owner}
+use Rattle.tick_model.proofs.Writes.{became_at}
 use Rattle.tick_model.proofs.Queues.{one-event, queued}
 
 pub gains_none : (setting : Setting) (v : View) → gains setting.rules 0 v ≡ v
@@ -52,18 +64,31 @@ advance_fine setting k u fine = advance-keeps setting k u fine
 pub advance_count : (setting : Setting) (k : CellId → ℕ) (u : State) → (advance setting k u).number ≡ u.number
 advance_count setting k u = refl
 
-pub advance_measure : (setting : Setting) (k : CellId → ℕ) (u : State) → events_left (advance setting k u).items ≡ events_left u.items
+pub advance_measure : (setting : Setting) (k : CellId → ℕ) (u : State)
+    → events_left (advance setting k u).items + landings_left (advance setting k u).fleets ≡ events_left u.items + landings_left u.fleets
 advance_measure setting k u = refl
 
 pub advance_asks : (setting : Setting) (k : CellId → ℕ) (u : State) (a : Entry) (y : CellId) → asked setting.cells (view setting.cells (advance setting k u)) a.player a.req y ≡ true
     → asked setting.cells (view setting.cells u) a.player a.req y ≡ true
 advance_asks setting k u a y asks = sym (advance-asked setting k u a y) ∙ asks
 
+-- a key has the second of its event
+key-second : (e : Event) → (key_of e).second ≡ second_of e
+key-second (item_due class item later) = refl
+key-second (lands fleet) = refl
+
 pub sooner_first : (setting : Setting) (e d : Event) → second_of e < second_of d → key_before (key_of e) (key_of d) ≡ true
-sooner_first setting (item_due class item later) (item_due kind other more) earlier = key-sooner (key_of (item_due class item later)) (key_of (item_due kind other more)) earlier
+sooner_first setting e d earlier =
+    let first = key-second e in
+    let second = key-second d in
+    key-sooner (key_of e) (key_of d) (omega (arith, first, second, earlier))
 
 pub first_sooner : (setting : Setting) (e d : Event) → key_before (key_of e) (key_of d) ≡ true → second_of e ≤ second_of d
-first_sooner setting (item_due class item later) (item_due kind other more) before = key-later (key_of (item_due class item later)) (key_of (item_due kind other more)) before
+first_sooner setting e d before =
+    let first = key-second e in
+    let second = key-second d in
+    let later = key-later (key_of e) (key_of d) before in
+    omega (arith, first, second, later)
 
 pub one : (setting : Setting) (u : State) (e d : Event) → KeepsRules setting u → Stands (game setting) u e → Stands (game setting) u d
     → (key_before (key_of e) (key_of d) ≡ true → ⊥) → (key_before (key_of d) (key_of e) ≡ true → ⊥) → e ≡ d
@@ -72,6 +97,7 @@ one setting u e d fine stands stands' after before =
 
 pub home : (setting : Setting) (e : Event) → footprint e (home_of e) ≡ true
 home setting (item_due class item later) = has-home class item later
+home setting (lands fleet) = landing-belongs fleet
 
 pub depends : (setting : Setting) (u v : State) (e : Event) → KeepsRules setting u → KeepsRules setting v → Stands (game setting) u e → Stands (game setting) v e
     → Agree (game setting) (footprint e) u v → Agree (game setting) (footprint e) (effect setting e u) (effect setting e v)
@@ -101,17 +127,6 @@ payers-of Yard Researches some all cell same among is = absurd cc
 payers-of Yard Buildings some all cell same among is = is
 payers-of Yard Yard some all cell same among is = is
 
-pub or-is : (a b : Bool) → a || b ≡ true → (a ≡ true) ⊎ (b ≡ true)
-or-is true b is = inl refl
-or-is false b is = inr is
-
-or-second : (a b : Bool) → b ≡ true → a || b ≡ true
-or-second true b is = refl
-or-second false b is = is
-
-or-first : (a b : Bool) → a ≡ true → a || b ≡ true
-or-first a b is = rw is refl
-
 -- the queue that an event leaves brings no more than the event needs
 narrows : (class kind : QueueClass) (item : Item) (later : List Item) (first : Item) (rest : List Item) (x : CellId) → class ≡ kind → item.cell ≡ first.cell
     → Follows (item ∷ later) (first ∷ rest) → footprint (item_due kind first rest) x ≡ true → footprint (item_due class item later) x ≡ true
@@ -120,6 +135,41 @@ narrows class kind item later first rest x sort place follows has =
       | inl at_home ↦ or-first (same_cell item.cell x) (is_payer class later x) ((λ i. same_cell (place i) x) ∙ at_home)
       | inr payer ↦ or-second (same_cell item.cell x) (is_payer class later x) (payers-of class kind rest later x sort (follows-rest item later first rest follows) payer)
     ]
+
+-- a fleet that flies stands
+stands-landing : (setting : Setting) (u : State) (fleet : Fleet) → IsIn fleet u.fleets → Stands (game setting) u (lands fleet)
+stands-landing setting u fleet is = in-filter (belongs (home_of (lands fleet))) fleet u.fleets is (landing-belongs fleet)
+
+-- a fleet that turns back is back later
+back-later : (state : State) (fleet : Fleet) → IsFlying state fleet → fleet.outbound ≡ true → fleet.second < back_at fleet
+back-later state fleet flying out = let later = flying.later out in omega (arith, later)
+
+-- what flies after a fleet has landed flew before, or is this fleet on its way back
+landed-new : (setting : Setting) (u : State) (fleet new : Fleet) (back : Option Units) → KeepsRules setting u → IsIn fleet u.fleets → ((cargo : Units) → back ≡ Some cargo → fleet.outbound ≡ true)
+    → turns back fleet ≡ Some new → Stands (game setting) u (lands new) ⊎ ((fleet.second < new.second) × ComesFrom (game setting) u (lands fleet) (lands new))
+landed-new setting u fleet new None fine flies only is = absurd cc
+landed-new setting u fleet new (Some cargo) fine flies only is =
+    let same : turned fleet (back_at fleet) cargo ≡ new = cc in
+    let later = back-later u fleet (fine.flying fleet flies) (only cargo refl) in
+    inr (subst (λ (f : Fleet). fleet.second < f.second) same later, inl (λ x has. turns-belongs (Some cargo) x fleet new is has))
+
+arises_at : (setting : Setting) (u : State) (fleet old new : Fleet) (back : Option Units) (b : Bool) → eqb old.number fleet.number ≡ b → KeepsRules setting u → IsIn fleet u.fleets → IsIn old u.fleets
+    → ((cargo : Units) → back ≡ Some cargo → fleet.outbound ≡ true) → cond b (turns back old) (Some old) ≡ Some new
+    → Stands (game setting) u (lands new) ⊎ ((fleet.second < new.second) × ComesFrom (game setting) u (lands fleet) (lands new))
+arises_at setting u fleet old new back true number fine flies is only becomes =
+    let one = fleet-one u.fleets old fleet fine.apart is flies number in
+    landed-new setting u fleet new back fine flies only (subst (λ f. turns back f ≡ Some new) one becomes)
+arises_at setting u fleet old new back false number fine flies is only becomes =
+    let same : old ≡ new = cc in
+    inl (stands-landing setting u new (subst (λ f. IsIn f u.fleets) same is))
+
+arises-landing : (setting : Setting) (u : State) (fleet new : Fleet) → KeepsRules setting u → IsIn fleet u.fleets → IsIn new (after_landing setting fleet u).fleets
+    → Stands (game setting) u (lands new) ⊎ ((fleet.second < new.second) × ComesFrom (game setting) u (lands fleet) (lands new))
+arises-landing setting u fleet new fine flies is =
+    let seen = seen_of setting (lands fleet) u in
+    let back = (came_landed fleet seen).back in
+    let found = from-changed (became_at fleet.number (turns back)) new u.fleets is in
+    arises_at setting u fleet found.0 new back (eqb found.0.number fleet.number) refl fine flies found.1 (back-out fleet (owns seen (Planet (landing fleet)))) found.2
 
 pub arises : (setting : Setting) (u : State) (e d : Event) → KeepsRules setting u → Stands (game setting) u e → footprint e (home_of d) ≡ true
     → Stands (game setting) (effect setting e u) d
@@ -136,6 +186,11 @@ arises setting u (item_due class item later) (item_due kind first rest) fine sta
           let queue = sym (queue-after setting u class item later fine stands) ∙ (λ i. queue_in (after setting class item later u).items (place i) (sort i)) ∙ now in
           inr (ends.next first rest queue, inl (λ x. narrows class kind item later first rest x sort place (subst (Follows (item ∷ later)) queue ends.follows))))
     ]
+arises setting u (item_due class item later) (lands fleet) fine stands has owes =
+    inl (subst (λ s. IsIn fleet (view setting.cells s (Planet (landing fleet))).fleets) (effect-is setting class item later u) owes)
+arises setting u (lands fleet) (item_due class item later) fine stands has owes = inl (sym (ap (λ s. queue_in s.items item.cell class) (landing-is setting fleet u)) ∙ owes)
+arises setting u (lands fleet) (lands new) fine stands has owes = arises-landing setting u fleet new fine (flies-in setting.cells u (home_of (lands fleet)) fleet stands)
+    (flies-in setting.cells (after_landing setting fleet u) (home_of (lands new)) new (subst (λ s. IsIn new (view setting.cells s (home_of (lands new))).fleets) (landing-is setting fleet u) owes))
 
 -- a planet that is to pay research brings the account
 payer-brings : (setting : Setting) (u : State) (t : ℕ) (item paid : Item) (later : List Item) (x : CellId) → KeepsRules setting u → queue_in u.items item.cell Researches ≡ item ∷ later
@@ -145,13 +200,13 @@ payer-brings setting u t item paid later x fine stands is at_x =
     let placed = fine.placed paid old.within in
     let account : item.cell ≡ Account placed.planet.owner = sym old.place ∙ placed.cell ∙ ap (λ class. queue_cell class paid.place placed.planet.owner) old.class_is in
     let own : u.own x ≡ of_planet placed.planet = ap u.own (sym (cell-is (Planet paid.place) x at_x)) ∙ placed.stands in
-    or-first (own_brings (u.own x) item.cell) (research_brings t (queue_in u.items x Researches) item.cell) (
+    brings-own (view setting.cells u x) t item.cell (
     (λ i. own_brings (own i) item.cell) ∙ cell-from (Account placed.planet.owner) item.cell (sym account))
 
 -- an account brings those that are to pay the research behind one that is done
 account-brings : (t : ℕ) (seen : View) (item : Item) (later : List Item) (y : CellId) → seen.queue Researches ≡ item ∷ later → item.second ≤ t → is_payer Researches later y ≡ true → brings seen t y ≡ true
 account-brings t seen item later y stands due payer =
-    or-second (own_brings seen.own y) (research_brings t (seen.queue Researches) y) (
+    brings-research seen t y (
     ap (λ items. research_brings t items y) stands ∙ and-from (nat_le item.second t) (is_payer Researches later y) (le-is item.second t due) payer)
 
 home-inside : (setting : Setting) (S : CellId → Bool) (t : ℕ) (u : State) (class : QueueClass) (item : Item) (later : List Item) → KeepsRules setting u → IsClosed (game setting) (view setting.cells u) t S
@@ -180,6 +235,11 @@ closure setting S t u fine closed (item_due class item later) stands due x y has
       | inl at_home ↦ subst (λ z. S z ≡ true) (cell-is item.cell y at_home) home
       | inr payer ↦ payer-inside setting S t u class item later closed stands due y payer home
     ]
+closure setting S t u fine closed (lands fleet) stands due x y has_x has_y inside =
+    let flies = flies-in setting.cells u (home_of (lands fleet)) fleet stands in
+    let there = in-filter (belongs x) fleet u.fleets flies has_x in
+    let brought = in-any (λ (f : Fleet). nat_le f.second t && belongs y f) fleet (filter (belongs x) u.fleets) there (and-from (nat_le fleet.second t) (belongs y fleet) (le-is fleet.second t due) has_y) in
+    closed x inside y (brings-fleet (view setting.cells u x) t y brought)
 
 -- of what the research queue brings that an event leaves it needs all
 still-brings : (t : ℕ) (class : QueueClass) (item : Item) (later queue : List Item) (y : CellId) → class ≡ Researches → Follows (item ∷ later) queue → research_brings t queue y ≡ true
@@ -189,32 +249,126 @@ still-brings t class item later (first ∷ rest) y sort follows brought =
     let payer = (and-is (nat_le first.second t) (is_payer Researches rest y) brought).1 in
     or-second (same_cell item.cell y) (is_payer class later y) (payers-of class Researches rest later y sort (follows-rest item later first rest follows) payer)
 
+widens-item : (setting : Setting) (u : State) (class : QueueClass) (item : Item) (later : List Item) (t : ℕ) (x y : CellId) → KeepsRules setting u → Stands (game setting) u (item_due class item later)
+    → BringsBy (view setting.cells (after setting class item later u) x) t y → (brings (view setting.cells u x) t y ≡ true) ⊎ (footprint (item_due class item later) y ≡ true)
+widens-item setting u class item later t x y fine stands (by_owner own) =
+    let new = after setting class item later u in
+    let owner = brings-same (new.own x) (u.own x) (stays-owner (u.own x) (new.own x) (event-stays setting u class item later x)) y in
+    inl (brings-own (view setting.cells u x) t y (sym owner ∙ own))
+widens-item setting u class item later t x y fine stands (by_fleet fleet) = inl (brings-fleet (view setting.cells u x) t y fleet)
+widens-item setting u class item later t x y fine stands (by_research research) =
+    let new = after setting class item later u in
+    elim (test (same_cell item.cell x && same_class class Researches)) [
+      | inr apart ↦
+          (let queue = other-queue setting u class item later x Researches fine stands apart in
+          inl (brings-research (view setting.cells u x) t y (sym (ap (λ items. research_brings t items y) queue) ∙ research)))
+      | inl here ↦
+          (let both = and-is (same_cell item.cell x) (same_class class Researches) here in
+          let place = cell-is item.cell x both.0 in
+          let sort = class-is class Researches both.1 in
+          let queue = (λ i. queue_in new.items (sym place i) (sym sort i)) ∙ queue-after setting u class item later fine stands in
+          inr (still-brings t class item later _ y sort (event-ends setting u class item later fine stands).follows (sym (ap (λ items. research_brings t items y) queue) ∙ research)))
+    ]
+
+-- what a fleet brings after another one has landed, one brought before, or it is that one
+widens_at : (u : State) (fleet old new : Fleet) (back : Option Units) (b : Bool) → eqb old.number fleet.number ≡ b → IsIn old u.fleets → IsIn fleet u.fleets → AreApart u.fleets
+    → cond b (turns back old) (Some old) ≡ Some new → (y : CellId) → belongs y new ≡ true → (old ≡ new) ⊎ (belongs y fleet ≡ true)
+widens_at u fleet old new back true number is flies apart becomes y has =
+    let one = fleet-one u.fleets old fleet apart is flies number in
+    inr (subst (λ f. belongs y f ≡ true) one (turns-belongs back y old new becomes has))
+widens_at u fleet old new back false number is flies apart becomes y has = let same : old ≡ new = cc in inl same
+
+widens-landing : (setting : Setting) (u : State) (fleet : Fleet) (t : ℕ) (x y : CellId) → KeepsRules setting u → IsIn fleet u.fleets
+    → BringsBy (view setting.cells (after_landing setting fleet u) x) t y → (brings (view setting.cells u x) t y ≡ true) ⊎ (belongs y fleet ≡ true)
+widens-landing setting u fleet t x y fine flies (by_owner own) =
+    let new = after_landing setting fleet u in
+    let owner = brings-same (new.own x) (u.own x) (stays-owner (u.own x) (new.own x) (landing-stays setting u fleet x)) y in
+    inl (brings-own (view setting.cells u x) t y (sym owner ∙ own))
+widens-landing setting u fleet t x y fine flies (by_research research) = inl (brings-research (view setting.cells u x) t y research)
+widens-landing setting u fleet t x y fine flies (by_fleet brought) =
+    let after_fleets = (after_landing setting fleet u).fleets in
+    let back = (came_landed fleet (seen_of setting (lands fleet) u)).back in
+    let found = any-in (λ (f : Fleet). nat_le f.second t && belongs y f) (filter (belongs x) after_fleets) brought in
+    let new = found.0 in
+    let both = and-is (nat_le new.second t) (belongs y new) found.2 in
+    let there = from-filter (belongs x) new after_fleets found.1 in
+    let old = from-changed (became_at fleet.number (turns back)) new u.fleets there.0 in
+    elim (widens_at u fleet old.0 new back (eqb old.0.number fleet.number) refl old.1 flies fine.apart old.2 y both.1) [
+      | inr needed ↦ inr needed
+      | inl same ↦
+          (let is : IsIn new u.fleets = subst (λ f. IsIn f u.fleets) same old.1 in
+          let seen = in-filter (belongs x) new u.fleets is there.1 in
+          inl (brings-fleet (view setting.cells u x) t y (in-any (λ (f : Fleet). nat_le f.second t && belongs y f) new (filter (belongs x) u.fleets) seen found.2)))
+    ]
+
 pub widens : (setting : Setting) (u : State) (e : Event) (t : ℕ) (x y : CellId) → KeepsRules setting u → Stands (game setting) u e → footprint e x ≡ true
     → brings (view setting.cells (effect setting e u) x) t y ≡ true → (brings (view setting.cells u x) t y ≡ true) ⊎ (footprint e y ≡ true)
 widens setting u (item_due class item later) t x y fine stands has brought =
-    let new = after setting class item later u in
-    let now : brings (view setting.cells new x) t y ≡ true = ap (λ s. brings (view setting.cells s x) t y) (sym (effect-is setting class item later u)) ∙ brought in
-    let owner = brings-same (new.own x) (u.own x) (stays-owner (u.own x) (new.own x) (event-stays setting u class item later x)) y in
-    elim (or-is (own_brings (new.own x) y) (research_brings t (queue_in new.items x Researches) y) now) [
-      | inl own ↦ inl (or-first (own_brings (u.own x) y) (research_brings t (queue_in u.items x Researches) y) (sym owner ∙ own))
-      | inr research ↦ elim (test (same_cell item.cell x && same_class class Researches)) [
-        | inr apart ↦
-            (let queue = other-queue setting u class item later x Researches fine stands apart in
-            inl (or-second (own_brings (u.own x) y) (research_brings t (queue_in u.items x Researches) y) (sym (ap (λ items. research_brings t items y) queue) ∙ research)))
-        | inl here ↦
-            (let both = and-is (same_cell item.cell x) (same_class class Researches) here in
-            let place = cell-is item.cell x both.0 in
-            let sort = class-is class Researches both.1 in
-            let queue = (λ i. queue_in new.items (sym place i) (sym sort i)) ∙ queue-after setting u class item later fine stands in
-            inr (still-brings t class item later _ y sort (event-ends setting u class item later fine stands).follows (sym (ap (λ items. research_brings t items y) queue) ∙ research)))
-      ]
-    ]
+    let now = sym (ap (λ s. brings (view setting.cells s x) t y) (effect-is setting class item later u)) ∙ brought in
+    widens-item setting u class item later t x y fine stands (brings-by (view setting.cells (after setting class item later u) x) t y now)
+widens setting u (lands fleet) t x y fine stands has brought =
+    let now = sym (ap (λ s. brings (view setting.cells s x) t y) (landing-is setting fleet u)) ∙ brought in
+    widens-landing setting u fleet t x y fine (flies-in setting.cells u (home_of (lands fleet)) fleet stands) (brings-by (view setting.cells (after_landing setting fleet u) x) t y now)
+
+-- Which cells a request asks for after a fleet has landed.
+
+-- a fleet that flies out then flew out before
+still-out : (fleet old new : Fleet) (back : Option Units) (b : Bool) → cond b (turns back old) (Some old) ≡ Some new → new.outbound ≡ true → old ≡ new
+still-out fleet old new None true is out = absurd cc
+still-out fleet old new (Some cargo) true is out =
+    let same : turned old (back_at old) cargo ≡ new = cc in
+    never (turned old (back_at old) cargo).outbound (ap (λ (f : Fleet). f.outbound) same ∙ out) refl
+still-out fleet old new back false is out = cc
+
+outs-after : (setting : Setting) (u : State) (fleet : Fleet) (player : Player) (number : ℕ) (y : CellId) → KeepsRules setting u
+    → belongs_out y (fleet_of player number (view setting.cells (after_landing setting fleet u) (Account player)).fleets) ≡ true
+    → belongs_out y (fleet_of player number (view setting.cells u (Account player)).fleets) ≡ true
+outs-after setting u fleet player number y fine out =
+    let mine = belongs (Account player) in
+    let after_fleets = (after_landing setting fleet u).fleets in
+    let back = (came_landed fleet (seen_of setting (lands fleet) u)).back in
+    let flies = flies-out player number y (filter mine after_fleets) out in
+    let there = from-filter mine flies.fleet after_fleets flies.is_theirs.within in
+    let old = from-changed (became_at fleet.number (turns back)) flies.fleet u.fleets there.0 in
+    let same = still-out fleet old.0 flies.fleet back (eqb old.0.number fleet.number) old.2 flies.out in
+    out-flies player number y (filter mine u.fleets) (apart-filter mine u.fleets fine.apart) (record {
+      fleet = flies.fleet;
+      is_theirs = record {
+        within = in-filter mine flies.fleet u.fleets (subst (λ f. IsIn f u.fleets) same old.1) there.1;
+        number_is = flies.is_theirs.number_is;
+        owner_is = flies.is_theirs.owner_is;
+      };
+      out = flies.out;
+      has = flies.has;
+    })
+
+-- a request names no more if it recalls no more
+names-less : (v w : CellId → View) (player : Player) (req : Request) (y : CellId)
+    → ((number : ℕ) → belongs_out y (fleet_of player number (v (Account player)).fleets) ≡ true → belongs_out y (fleet_of player number (w (Account player)).fleets) ≡ true)
+    → names v player req y ≡ true → names w player req y ≡ true
+names-less v w player (Recall fleet) y less is = less fleet.f is
+names-less v w player _ y less is = is
+
+asks-less : (cells : List CellId) (v w : CellId → View) (player : Player) (req : Request) (y : CellId)
+    → ((number : ℕ) → belongs_out y (fleet_of player number (v (Account player)).fleets) ≡ true → belongs_out y (fleet_of player number (w (Account player)).fleets) ≡ true)
+    → asked cells v player req y ≡ true → asked cells w player req y ≡ true
+asks-less cells v w player req y less asks =
+    let listed = is_listed cells (Account player) && is_listed cells y in
+    let both = and-is listed (same_cell (Account player) y || names v player req y) asks in
+    and-from listed (same_cell (Account player) y || names w player req y) both.0 (elim (or-is (same_cell (Account player) y) (names v player req y) both.1) [
+      | inl caller ↦ or-first (same_cell (Account player) y) (names w player req y) caller
+      | inr named ↦ or-second (same_cell (Account player) y) (names w player req y) (names-less v w player req y less named)
+    ])
 
 pub asks_after : (setting : Setting) (u : State) (e : Event) (a : Entry) (y : CellId) → KeepsRules setting u → Stands (game setting) u e
     → asked setting.cells (view setting.cells (effect setting e u)) a.player a.req y ≡ true
     → (asked setting.cells (view setting.cells u) a.player a.req y ≡ true) ⊎ (footprint e y ≡ true)
-asks_after setting u e a y fine stands asks =
-    inl (asked-same setting.cells (view setting.cells u) (view setting.cells (effect setting e u)) a.player a.req y ∙ asks)
+asks_after setting u (item_due class item later) a y fine stands asks =
+    let fleets = ap (λ s. (view setting.cells s (Account a.player)).fleets) (effect-is setting class item later u) in
+    inl (asked-same setting.cells (view setting.cells u) (view setting.cells (effect setting (item_due class item later) u)) a.player a.req y (sym fleets) ∙ asks)
+asks_after setting u (lands fleet) a y fine stands asks =
+    let now = ap (λ s. asked setting.cells (view setting.cells s) a.player a.req y) (sym (landing-is setting fleet u)) ∙ asks in
+    inl (asks-less setting.cells (view setting.cells (after_landing setting fleet u)) (view setting.cells u) a.player a.req y (λ number out. outs-after setting u fleet a.player number y fine out) now)
 
 pub effect_count : (setting : Setting) (u : State) (e : Event) → (effect setting e u).number ≡ u.number
 effect_count setting u e = refl
@@ -222,7 +376,8 @@ effect_count setting u e = refl
 pub effect_fine : (setting : Setting) (u : State) (e : Event) → KeepsRules setting u → Stands (game setting) u e → KeepsRules setting (effect setting e u)
 effect_fine setting u e fine stands = event-keeps setting u e stands fine
 
-pub falls : (setting : Setting) (u : State) (e : Event) → KeepsRules setting u → Stands (game setting) u e → events_left (effect setting e u).items < events_left u.items
+pub falls : (setting : Setting) (u : State) (e : Event) → KeepsRules setting u → Stands (game setting) u e
+    → events_left (effect setting e u).items + landings_left (effect setting e u).fleets < events_left u.items + landings_left u.fleets
 falls setting u e fine stands = event-falls setting u e fine stands
 
 pub next_found : (setting : Setting) (S : CellId → Bool) (t : ℕ) (u : State) (e : Event) → KeepsRules setting u → next_event setting S t u ≡ Some e

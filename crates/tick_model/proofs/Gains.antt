@@ -1,14 +1,14 @@
 -- What gains leave of a cell.
-use Rattle.std.proofs.Common.{◌≡◌, ℕ, zero, suc, ◌+◌, true, ◌||◌, arith, refl, ap, ◌∙◌, sym}
+use Rattle.std.proofs.Common.{◌≡◌, ℕ, zero, suc, ◌+◌, true, ◌||◌, arith, refl, ap, ◌∙◌, sym, subst}
 use Rattle.std.proofs.Math.Path.{fun_ext}
 use Rattle.base_ids.specs.declared.cell_id.CellId.{CellId}
 use Rattle.rates.specs.Times.{times}
 use Rattle.request_text.specs.declared.entry.Entry.{Entry}
-use Rattle.tick_model.specs.Events.{Event, item_due, Owes}
-use Rattle.tick_model.specs.Game.{brings, research_brings}
+use Rattle.tick_model.specs.Events.{Event, item_due, lands, Owes}
+use Rattle.tick_model.specs.Game.{brings, fleets_bring, research_brings}
 use Rattle.tick_model.specs.Production.{advance, cell_second, gains, own_second, planet_second}
 use Rattle.tick_model.specs.Requests.{asked}
-use Rattle.tick_model.specs.Rules.{KeepsRules}
+use Rattle.tick_model.specs.Rules.{IsIn, KeepsRules}
 use Rattle.tick_model.specs.declared.rules.Rules.{Rules}
 use Rattle.tick_model.specs.Universe.{Own, of_nothing, of_account, of_planet, Researches, Yard, Setting, State}
 use Rattle.tick_model.specs.Views.{View, planets_of, queue_in, units_of, view}
@@ -58,16 +58,19 @@ more-gained rules m (suc n) v =
 -- a cell owes after gains just what it owed before
 pub gains-owe : (rules : Rules) (n : ℕ) (v : View) (e : Event) → Owes v e → Owes (gains rules n v) e
 gains-owe rules n v (item_due class item later) owes = ap (λ queue. queue class) (gained rules n v).queue ∙ owes
+gains-owe rules n v (lands fleet) owes = subst (IsIn fleet) (sym (gained rules n v).fleets) owes
 
 pub gains-owed : (rules : Rules) (n : ℕ) (v : View) (e : Event) → Owes (gains rules n v) e → Owes v e
 gains-owed rules n v (item_due class item later) owes = ap (λ queue. queue class) (sym (gained rules n v).queue) ∙ owes
+gains-owed rules n v (lands fleet) owes = subst (IsIn fleet) (gained rules n v).fleets owes
 
 pub gains-bring : (rules : Rules) (n t : ℕ) (v : View) (y : CellId) → brings (gains rules n v) t y ≡ true → brings v t y ≡ true
 gains-bring rules n t v y brought =
     let after = gained rules n v in
     let own = brings-same (gains rules n v).own v.own (stays-owner v.own (gains rules n v).own (alike-stays v.own (gains rules n v).own after.alike)) y in
     let research = ap (λ queue. research_brings t (queue Researches) y) after.queue in
-    sym (λ i. own i || research i) ∙ brought
+    let fleets = ap (λ fleets. fleets_bring t fleets y) after.fleets in
+    sym (λ i. own i || research i || fleets i) ∙ brought
 
 -- every cell gains for its own seconds
 pub view-advanced : (setting : Setting) (k : CellId → ℕ) (state : State) (x : CellId)
@@ -77,7 +80,7 @@ view-advanced setting k state x =
     let after = gained setting.rules (k x) (before x) in
     let holdings = fun_ext (λ y. alike-holding (state.own y) ((advance setting k state).own y) (queue_in state.items y Yard) (gained setting.rules (k y) (before y)).alike) in
     let planets = ap (λ held. planets_of setting.cells held x) holdings ∙ sym after.planets in
-    let units = ap (λ held. units_of setting.cells held x) holdings ∙ sym after.units in
+    let units = ap (λ held. units_of setting.cells held state.fleets x) holdings ∙ sym after.units in
     λ i. record {
       own = (gains setting.rules (k x) (before x)).own;
       queue = sym after.queue i;
@@ -92,4 +95,4 @@ advance-keeps setting k state fine =
 
 pub advance-asked : (setting : Setting) (k : CellId → ℕ) (state : State) (entry : Entry) (y : CellId)
     → asked setting.cells (view setting.cells (advance setting k state)) entry.player entry.req y ≡ asked setting.cells (view setting.cells state) entry.player entry.req y
-advance-asked setting k state entry y = asked-same setting.cells (view setting.cells (advance setting k state)) (view setting.cells state) entry.player entry.req y
+advance-asked setting k state entry y = asked-same setting.cells (view setting.cells (advance setting k state)) (view setting.cells state) entry.player entry.req y refl

@@ -11,9 +11,13 @@ pub mod Units
 pub mod Ends
 pub mod Counted
 pub mod Effects
+pub mod Landings
+pub mod Fleets
+pub mod Footprints
 pub mod EventKeeps
 pub mod Seen
 pub mod Nexts
+pub mod Brought
 pub mod EventLaws
 pub mod Outcomes
 pub mod Written

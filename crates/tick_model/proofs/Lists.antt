@@ -1,6 +1,7 @@
 -- Lists of items and fleets: what is among them, what filters leave of them, and items that are distinct.
-use Rattle.std.proofs.Common.{◌≡◌, ℕ, ◌⊎◌, inl, inr, Bool, true, false, not, cond, eqb, ◌&&◌, ◌||◌, List, [], ◌∷◌, ◌++◌, Option, None, Some, filter, arith, refl, ap, ◌∙◌, sym, subst}
-use Rattle.std.specs.List.{list_any, filter_map, cons_option}
+use Rattle.std.proofs.Common.{◌≡◌, ℕ, ◌⊎◌, inl, inr, Bool, true, false, not, cond, eqb, ◌&&◌, ◌||◌, List, [], ◌∷◌, ◌++◌, Option, None, Some, Contains, filter, arith, refl, ap, ◌∙◌, sym, subst}
+use Rattle.std.specs.List.{All, list_any, filter_map, cons_option}
+use Rattle.std.proofs.lemmas.List.Elements.{All-cons, All-contains, All-nil, All-weaker}
 use Rattle.std.proofs.lemmas.Bool.Decides.{nat_tests}
 use Rattle.base_ids.specs.Cells.{same_cell, same_player}
 use Rattle.base_ids.specs.declared.player.Player.{Player}
@@ -8,8 +9,8 @@ use Rattle.base_ids.specs.declared.cell_id.CellId.{CellId}
 use Rattle.base_ids.specs.declared.cell_id.CellId.TheVariants.{Account, Planet}
 use Rattle.base_ids.proofs.Names.{coord_is, player_is}
 use Rattle.laziness.proofs.Bringing.{test, never}
-use Rattle.tick_model.specs.Rules.{IsIn, same_order, AreDistinct}
-use Rattle.tick_model.specs.Universe.{QueueClass, Buildings, Researches, Yard, same_class, Item}
+use Rattle.tick_model.specs.Rules.{IsIn, same_flight, same_order, AreApart, AreDistinct}
+use Rattle.tick_model.specs.Universe.{QueueClass, Buildings, Researches, Yard, same_class, Fleet, Item}
 
 -- Tests.
 
@@ -20,6 +21,17 @@ and-is false b is = absurd cc
 pub and-from : (a b : Bool) → a ≡ true → b ≡ true → a && b ≡ true
 and-from a b first second = rw first second
 
+pub or-is : (a b : Bool) → a || b ≡ true → (a ≡ true) ⊎ (b ≡ true)
+or-is true b is = inl refl
+or-is false b is = inr is
+
+pub or-second : (a b : Bool) → b ≡ true → a || b ≡ true
+or-second true b is = refl
+or-second false b is = is
+
+pub or-first : (a b : Bool) → a ≡ true → a || b ≡ true
+or-first a b is = rw is refl
+
 -- a test that can't be passed fails
 pub fails : (b : Bool) → (b ≡ true → ⊥) → b ≡ false
 fails true never_true = absurd (never_true refl)
@@ -29,10 +41,14 @@ pub not-true : (b : Bool) → not b ≡ true → b ≡ false
 not-true true is = absurd cc
 not-true false is = refl
 
+pub not-false : (b : Bool) → not b ≡ false → b ≡ true
+not-false true is = refl
+not-false false is = absurd cc
+
 pub same_number : (n : ℕ) → eqb n n ≡ true
 same_number n = grind (arith, nat_tests)
 
-number-is : (m n : ℕ) → eqb m n ≡ true → m ≡ n
+pub number-is : (m n : ℕ) → eqb m n ≡ true → m ≡ n
 number-is m n is = grind (arith, nat_tests)
 
 -- a cell is itself
@@ -130,6 +146,16 @@ from-kept p x first xs false fails rest later = let both = rest later in (inr bo
 pub from-filter : {A : Type 0} (p : A → Bool) (x : A) (xs : List A) → IsIn x (filter p xs) → IsIn x xs × (p x ≡ true)
 from-filter p x [] is = absurd is
 from-filter p x (first ∷ xs) is = from-kept p x first xs (p first) refl (from-filter p x xs) is
+
+all-in : {A : Type 0} (xs : List A) → All (λ y. IsIn y xs) xs
+all-in [] = All-nil (λ y. IsIn y [])
+all-in {A = A} (x ∷ xs) =
+    let within = λ (y : A). IsIn y (x ∷ xs) in
+    All-cons within x xs (inl refl) (All-weaker (λ y. IsIn y xs) within (λ y is. inr is) xs (all-in xs))
+
+-- what a list contains is in it
+pub in-contained : {A : Type 0} (xs : List A) (x : A) → Contains xs x → IsIn x xs
+in-contained xs x has = All-contains (λ y. IsIn y xs) xs x (all-in xs) has
 
 -- What filters leave.
 
@@ -258,7 +284,7 @@ in-any p x [] is passes = absurd is
 in-any p x (first ∷ xs) (inl same) passes = ap (λ b. b || list_any p xs) (ap p (sym same) ∙ passes)
 in-any p x (first ∷ xs) (inr later) passes = either-passes (p first) (list_any p xs) (in-any p x xs later passes)
 
-number-turned : (m n : ℕ) → eqb m n ≡ eqb n m
+pub number-turned : (m n : ℕ) → eqb m n ≡ eqb n m
 number-turned m n = grind (arith, nat_tests)
 
 -- which of two orders is named first makes no difference
@@ -296,3 +322,62 @@ distinct-append (x ∷ xs) ys first second apart =
       | inr after ↦ apart x y (inl refl) after
     ] in
     (any-none (same_order x) (xs ++ ys) none, rest)
+
+-- Fleets that bear different numbers.
+
+-- two that bear the same number are one
+pub fleet-one : (xs : List Fleet) (a b : Fleet) → AreApart xs → IsIn a xs → IsIn b xs → same_flight a b ≡ true → a ≡ b
+fleet-one [] a b apart first second same = absurd first
+fleet-one (x ∷ xs) a b apart (inl first) (inl second) same = first ∙ sym second
+fleet-one (x ∷ xs) a b apart (inl first) (inr second) same =
+    never (same_flight a b) same (ap (λ f. same_flight f b) first ∙ none-any (same_flight x) b xs apart.0 second)
+fleet-one (x ∷ xs) a b apart (inr first) (inl second) same =
+    never (same_flight a b) same (ap (same_flight a) second ∙ number-turned a.number x.number ∙ none-any (same_flight x) a xs apart.0 first)
+fleet-one (x ∷ xs) a b apart (inr first) (inr second) same = fleet-one xs a b apart.1 first second same
+
+-- a fleet that is sent bears another number than all before
+pub apart-append : (xs : List Fleet) (new : Fleet) → AreApart xs → ((a : Fleet) → IsIn a xs → same_flight a new ≡ false) → AreApart (xs ++ new ∷ [])
+apart-append [] new apart other = (refl, tt)
+apart-append (x ∷ xs) new apart other =
+    let none : (y : Fleet) → IsIn y (xs ++ new ∷ []) → same_flight x y ≡ false = λ y is. elim (in-append y xs (new ∷ []) is) [
+      | inl before ↦ none-any (same_flight x) y xs apart.0 before
+      | inr last ↦ elim last [ inl same ↦ ap (same_flight x) same ∙ other x (inl refl) | inr nothing ↦ absurd nothing ]
+    ] in
+    (any-none (same_flight x) (xs ++ new ∷ []) none, apart-append xs new apart.1 (λ a is. other a (inr is)))
+
+from-changed_at : {A : Type 0} (h : A → Option A) (y x : A) (xs : List A) (o : Option A) → h x ≡ o → (IsIn y (filter_map h xs) → (z : A) × IsIn z xs × (h z ≡ Some y))
+    → IsIn y (cons_option o (filter_map h xs)) → (z : A) × IsIn z (x ∷ xs) × (h z ≡ Some y)
+from-changed_at h y x xs None becomes rest is = let found = rest is in (found.0, inr found.1, found.2)
+from-changed_at h y x xs (Some new) becomes rest (inl same) = (x, inl refl, becomes ∙ ap Some (sym same))
+from-changed_at h y x xs (Some new) becomes rest (inr later) = let found = rest later in (found.0, inr found.1, found.2)
+
+in-more : {A : Type 0} (o : Option A) (y : A) (rest : List A) → IsIn y rest → IsIn y (cons_option o rest)
+in-more None y rest is = is
+in-more (Some x) y rest is = inr is
+
+-- what comes of a change of each
+pub from-changed : {A : Type 0} (h : A → Option A) (y : A) (xs : List A) → IsIn y (filter_map h xs) → (x : A) × IsIn x xs × (h x ≡ Some y)
+from-changed h y [] is = absurd is
+from-changed h y (x ∷ xs) is = from-changed_at h y x xs (h x) refl (from-changed h y xs) is
+
+pub in-changed : {A : Type 0} (h : A → Option A) (x y : A) (xs : List A) → IsIn x xs → h x ≡ Some y → IsIn y (filter_map h xs)
+in-changed h x y [] is becomes = absurd is
+in-changed h x y (first ∷ xs) (inl same) becomes =
+    subst (λ o. IsIn y (cons_option o (filter_map h xs))) (sym becomes ∙ ap h same) (inl refl)
+in-changed h x y (first ∷ xs) (inr later) becomes = in-more (h first) y (filter_map h xs) (in-changed h x y xs later becomes)
+
+apart-changed_at : (h : Fleet → Option Fleet) (x : Fleet) (xs : List Fleet) (o : Option Fleet) → h x ≡ o → ((x y : Fleet) → h x ≡ Some y → y.number ≡ x.number)
+    → list_any (same_flight x) xs ≡ false → AreApart (filter_map h xs) → AreApart (cons_option o (filter_map h xs))
+apart-changed_at h x xs None becomes keeps other rest = rest
+apart-changed_at h x xs (Some new) becomes keeps other rest =
+    let number = keeps x new becomes in
+    let none : (y : Fleet) → IsIn y (filter_map h xs) → same_flight new y ≡ false = λ y is.
+    let found = from-changed h y xs is in
+    (λ i. eqb (number i) (keeps found.0 y found.2 i)) ∙ none-any (same_flight x) found.0 xs other found.1 in
+    (any-none (same_flight new) (filter_map h xs) none, rest)
+
+-- fleets that keep their numbers stay apart
+pub apart-changed : (h : Fleet → Option Fleet) (xs : List Fleet) → ((x y : Fleet) → h x ≡ Some y → y.number ≡ x.number) → AreApart xs → AreApart (filter_map h xs)
+apart-changed h [] keeps apart = tt
+apart-changed h (x ∷ xs) keeps apart =
+    apart-changed_at h x xs (h x) refl keeps apart.0 (apart-changed h xs keeps apart.1)

@@ -1,20 +1,20 @@
 -- The next event is found, if one is due.
-use Rattle.std.proofs.Common.{◌≡◌, ℕ, ◌≤◌, inl, inr, Bool, true, false, nat_le, cond, List, [], ◌∷◌, ◌++◌, None, Some, Contains, arith, refl, ap, sym, subst}
+use Rattle.std.proofs.Common.{◌≡◌, ℕ, ◌≤◌, inl, inr, Bool, true, false, nat_le, cond, List, [], ◌∷◌, ◌++◌, None, Some, Contains, filter, map, arith, refl, ap, ◌∙◌, sym, subst}
 use Rattle.std.proofs.lemmas.Bool.Decides.{nat_tests}
-use Rattle.std.proofs.lemmas.List.Elements.{All-cons, All-contains, All-nil, All-weaker}
-use Rattle.std.specs.List.{All}
+use Rattle.base_ids.specs.Cells.{same_cell}
 use Rattle.base_ids.specs.declared.cell_id.CellId.{CellId}
 use Rattle.base_ids.specs.declared.cell_id.CellId.TheVariants.{Planet}
 use Rattle.laziness.specs.Laws.{IsNext, NoneDue}
 use Rattle.laziness.proofs.Bringing.{never}
-use Rattle.tick_model.specs.Events.{Event, item_due, Owes, due_by, due_events, first_due, home, next_event, owed, second_of}
+use Rattle.tick_model.specs.Events.{Event, item_due, lands, Owes, due_by, due_events, first_due, home, items_owed, landings, next_event, owed, second_of}
+use Rattle.tick_model.specs.Flights.{landing}
 use Rattle.tick_model.specs.Game.{game}
 use Rattle.tick_model.specs.Requests.{is_there}
 use Rattle.tick_model.specs.Rules.{IsIn, KeepsRules, queue_cell}
-use Rattle.tick_model.specs.Universe.{of_planet, PlanetFields, QueueClass, Buildings, Researches, Yard, Item, Setting, State}
-use Rattle.tick_model.specs.Views.{View, view}
+use Rattle.tick_model.specs.Universe.{of_planet, PlanetFields, QueueClass, Buildings, Researches, Yard, Fleet, Item, Setting, State}
+use Rattle.tick_model.specs.Views.{View, belongs, view}
 use Rattle.tick_model.proofs.Keys.{first-none, first-some}
-use Rattle.tick_model.proofs.Lists.{from-filter, in-append, in-filter, in-first, in-second}
+use Rattle.tick_model.proofs.Lists.{cell-from, cell-is, from-filter, in-append, in-contained, in-filter, in-first, in-second}
 use Rattle.tick_model.proofs.Queues.{owed-home, queued}
 
 pub le-is : (m n : ℕ) → m ≤ n → nat_le m n ≡ true
@@ -22,16 +22,6 @@ le-is m n less = grind (arith, nat_tests)
 
 is-le : (m n : ℕ) → nat_le m n ≡ true → m ≤ n
 is-le m n is = grind (arith, nat_tests)
-
-all-in : {A : Type 0} (xs : List A) → All (λ y. IsIn y xs) xs
-all-in [] = All-nil (λ y. IsIn y [])
-all-in {A = A} (x ∷ xs) =
-    let within = λ (y : A). IsIn y (x ∷ xs) in
-    All-cons within x xs (inl refl) (All-weaker (λ y. IsIn y xs) within (λ y is. inr is) xs (all-in xs))
-
--- what a list contains is in it
-pub in-contained : {A : Type 0} (xs : List A) (x : A) → Contains xs x → IsIn x xs
-in-contained xs x has = All-contains (λ y. IsIn y xs) xs x (all-in xs) has
 
 first-owes : (class kind : QueueClass) (items : List Item) (item : Item) (later : List Item) → IsIn (item_due kind item later) (first_due class items)
     → (class ≡ kind) × (items ≡ item ∷ later)
@@ -44,9 +34,9 @@ owes-at seen class kind item later is =
     let both = first-owes class kind (seen.queue class) item later is in
     subst (λ c. seen.queue c ≡ item ∷ later) both.0 both.1
 
--- what a cell owes by its list it owes
-pub owes-from : (seen : View) (e : Event) → IsIn e (owed seen) → Owes seen e
-owes-from seen (item_due kind item later) is =
+-- what the queues of a cell bring it owes
+items-from : (seen : View) (class : QueueClass) (item : Item) (later : List Item) → IsIn (item_due class item later) (items_owed seen) → Owes seen (item_due class item later)
+items-from seen kind item later is =
     let e = item_due kind item later in
     let buildings = first_due Buildings (seen.queue Buildings) in
     let researches = first_due Researches (seen.queue Researches) in
@@ -59,35 +49,107 @@ owes-from seen (item_due kind item later) is =
       ]
     ]
 
+no-landing : (class : QueueClass) (fleet : Fleet) (items : List Item) → IsIn (lands fleet) (first_due class items) → ⊥
+no-landing class fleet [] is = is
+no-landing class fleet (item ∷ later) (inl same) = absurd cc
+no-landing class fleet (item ∷ later) (inr none) = none
+
+-- and that is no fleet
+no-landings : (seen : View) (fleet : Fleet) → IsIn (lands fleet) (items_owed seen) → ⊥
+no-landings seen fleet is =
+    let e = lands fleet in
+    let buildings = first_due Buildings (seen.queue Buildings) in
+    let researches = first_due Researches (seen.queue Researches) in
+    elim (in-append e (buildings ++ researches) (first_due Yard (seen.queue Yard)) is) [
+      | inr third ↦ no-landing Yard fleet (seen.queue Yard) third
+      | inl others ↦ elim (in-append e buildings researches others) [
+        | inl first ↦ no-landing Buildings fleet (seen.queue Buildings) first
+        | inr second ↦ no-landing Researches fleet (seen.queue Researches) second
+      ]
+    ]
+
 owed-first : (class : QueueClass) (items : List Item) (item : Item) (later : List Item) → items ≡ item ∷ later → IsIn (item_due class item later) (first_due class items)
 owed-first class items item later is = subst (λ items. IsIn (item_due class item later) (first_due class items)) (sym is) (inl refl)
 
-pub owed-from : (seen : View) (e : Event) → Owes seen e → IsIn e (owed seen)
-owed-from seen (item_due Buildings item later) owes =
+pub items-owes : (seen : View) (class : QueueClass) (item : Item) (later : List Item) → Owes seen (item_due class item later) → IsIn (item_due class item later) (items_owed seen)
+items-owes seen Buildings item later owes =
     let e = item_due Buildings item later in
     let buildings = first_due Buildings (seen.queue Buildings) in
     let researches = first_due Researches (seen.queue Researches) in
     in-first e (buildings ++ researches) (first_due Yard (seen.queue Yard)) (in-first e buildings researches (owed-first Buildings (seen.queue Buildings) item later owes))
-owed-from seen (item_due Researches item later) owes =
+items-owes seen Researches item later owes =
     let e = item_due Researches item later in
     let buildings = first_due Buildings (seen.queue Buildings) in
     let researches = first_due Researches (seen.queue Researches) in
     in-first e (buildings ++ researches) (first_due Yard (seen.queue Yard)) (in-second e buildings researches (owed-first Researches (seen.queue Researches) item later owes))
-owed-from seen (item_due Yard item later) owes =
+items-owes seen Yard item later owes =
     in-second (item_due Yard item later) (first_due Buildings (seen.queue Buildings) ++ first_due Researches (seen.queue Researches)) (first_due Yard (seen.queue Yard))
     (owed-first Yard (seen.queue Yard) item later owes)
+
+-- The fleets that land at a cell.
+
+from-landings : (fleets : List Fleet) (e : Event) → IsIn e (map lands fleets) → (fleet : Fleet) × IsIn fleet fleets × (e ≡ lands fleet)
+from-landings [] e is = absurd is
+from-landings (fleet ∷ fleets) e (inl same) = (fleet, inl refl, same)
+from-landings (fleet ∷ fleets) e (inr later) = let found = from-landings fleets e later in (found.0, inr found.1, found.2)
+
+to-landings : (fleets : List Fleet) (fleet : Fleet) → IsIn fleet fleets → IsIn (lands fleet) (map lands fleets)
+to-landings [] fleet is = absurd is
+to-landings (first ∷ fleets) fleet (inl same) = inl (ap lands same)
+to-landings (first ∷ fleets) fleet (inr later) = inr (to-landings fleets fleet later)
+
+-- a cell where an event is at home owes it
+pub owed-from : (cell : CellId) (seen : View) (e : Event) → home e ≡ cell → Owes seen e → IsIn e (owed cell seen)
+owed-from cell seen (item_due class item later) here owes =
+    in-first (item_due class item later) (items_owed seen) (landings cell seen.fleets) (items-owes seen class item later owes)
+owed-from cell seen (lands fleet) here owes =
+    let lands_here = λ (other : Fleet). same_cell (Planet (landing other)) cell in
+    in-second (lands fleet) (items_owed seen) (landings cell seen.fleets)
+    (to-landings (filter lands_here seen.fleets) fleet (in-filter lands_here fleet seen.fleets owes (cell-from (Planet (landing fleet)) cell here)))
+
+-- an event that a cell owes is at home there
+record OwesAtHome (cell : CellId) (seen : View) (e : Event) : Type 0 where
+  here : home e ≡ cell
+  owes : Owes seen e
+
+at-home : (setting : Setting) (state : State) (cell : CellId) (e : Event) → IsIn e (owed cell (view setting.cells state cell)) → OwesAtHome cell (view setting.cells state cell) e
+at-home setting state cell (item_due class item later) is =
+    let seen = view setting.cells state cell in
+    elim (in-append (item_due class item later) (items_owed seen) (landings cell seen.fleets) is) [
+      | inl queued ↦
+          (let owes = items-from seen class item later queued in
+          record { here = owed-home state class cell item later owes; owes = owes })
+      | inr fleet ↦
+          (let found = from-landings (filter (λ other. same_cell (Planet (landing other)) cell) seen.fleets) (item_due class item later) fleet in
+          absurd (let same : item_due class item later ≡ lands found.0 = found.2 in cc))
+    ]
+at-home setting state cell (lands fleet) is =
+    let seen = view setting.cells state cell in
+    let lands_here = λ (other : Fleet). same_cell (Planet (landing other)) cell in
+    elim (in-append (lands fleet) (items_owed seen) (landings cell seen.fleets) is) [
+      | inl queued ↦ absurd (no-landings seen fleet queued)
+      | inr landing_here ↦
+          (let found = from-landings (filter lands_here seen.fleets) (lands fleet) landing_here in
+          let event : lands fleet ≡ lands found.0 = found.2 in
+          let same : fleet ≡ found.0 = cc in
+          let both = from-filter lands_here found.0 seen.fleets found.1 in
+          record {
+            here = ap (λ (f : Fleet). Planet (landing f)) same ∙ cell-is (Planet (landing found.0)) cell both.1;
+            owes = subst (λ f. IsIn f seen.fleets) (sym same) both.0;
+          })
+    ]
 
 -- an event is due by a second, and one of these cells owes it
 pub record IsDue (some : CellId → Bool) (second : ℕ) (seen : CellId → View) (e : Event) (cell : CellId) : Type 0 where
   pub inside : some cell ≡ true
-  pub owes : Owes (seen cell) e
+  pub owes : IsIn e (owed cell (seen cell))
   pub due : second_of e ≤ second
 
 due-at : (some : CellId → Bool) (second : ℕ) (seen : CellId → View) (e : Event) (cell : CellId) (b : Bool) → some cell ≡ b
-    → IsIn e (cond b (due_by second (seen cell)) []) → IsDue some second seen e cell
+    → IsIn e (cond b (due_by second cell (seen cell)) []) → IsDue some second seen e cell
 due-at some second seen e cell true has is =
-    let both = from-filter (λ event. nat_le (second_of event) second) e (owed (seen cell)) is in
-    record { inside = has; owes = owes-from (seen cell) e both.0; due = is-le (second_of e) second both.1 }
+    let both = from-filter (λ event. nat_le (second_of event) second) e (owed cell (seen cell)) is in
+    record { inside = has; owes = both.0; due = is-le (second_of e) second both.1 }
 due-at some second seen e cell false out is = absurd is
 
 -- what is listed as due is due
@@ -95,7 +157,7 @@ pub due-from : (some : CellId → Bool) (second : ℕ) (seen : CellId → View) 
     → (cell : CellId) × IsDue some second seen e cell
 due-from some second seen [] e is = absurd is
 due-from some second seen (cell ∷ cells) e is =
-    elim (in-append e (cond (some cell) (due_by second (seen cell)) []) (due_events some second seen cells) is) [
+    elim (in-append e (cond (some cell) (due_by second cell (seen cell)) []) (due_events some second seen cells) is) [
       | inl here ↦ (cell, due-at some second seen e cell (some cell) refl here)
       | inr later ↦ due-from some second seen cells e later
     ]
@@ -105,13 +167,13 @@ pub due-listed : (some : CellId → Bool) (second : ℕ) (seen : CellId → View
     → IsIn e (due_events some second seen cells)
 due-listed some second seen [] e cell due listed = absurd listed
 due-listed some second seen (first ∷ cells) e cell due (inl same) =
-    let here : IsIn e (due_by second (seen cell)) =
-    in-filter (λ event. nat_le (second_of event) second) e (owed (seen cell)) (owed-from (seen cell) e due.owes) (le-is (second_of e) second due.due) in
-    let listed : IsIn e (cond (some cell) (due_by second (seen cell)) []) = rw due.inside here in
-    in-first e (cond (some first) (due_by second (seen first)) []) (due_events some second seen cells)
-    (subst (λ x. IsIn e (cond (some x) (due_by second (seen x)) [])) same listed)
+    let here : IsIn e (due_by second cell (seen cell)) =
+    in-filter (λ event. nat_le (second_of event) second) e (owed cell (seen cell)) due.owes (le-is (second_of e) second due.due) in
+    let listed : IsIn e (cond (some cell) (due_by second cell (seen cell)) []) = rw due.inside here in
+    in-first e (cond (some first) (due_by second first (seen first)) []) (due_events some second seen cells)
+    (subst (λ x. IsIn e (cond (some x) (due_by second x (seen x)) [])) same listed)
 due-listed some second seen (first ∷ cells) e cell due (inr later) =
-    in-second e (cond (some first) (due_by second (seen first)) []) (due_events some second seen cells) (due-listed some second seen cells e cell due later)
+    in-second e (cond (some first) (due_by second first (seen first)) []) (due_events some second seen cells) (due-listed some second seen cells e cell due later)
 
 -- the cell of an item is listed
 cell-listed : (setting : Setting) (state : State) (class : QueueClass) (item : Item) (planet : PlanetFields) → KeepsRules setting state → state.own (Planet item.place) ≡ of_planet planet
@@ -125,20 +187,45 @@ item-listed setting state item fine is =
     let placed = fine.placed item is in
     subst (Contains setting.cells) (sym placed.cell) (cell-listed setting state item.class item placed.planet fine placed.stands)
 
--- an event that stands is listed
+-- so is the place where a fleet lands
+pub landing-listed : (setting : Setting) (state : State) (fleet : Fleet) → KeepsRules setting state → IsIn fleet state.fleets → Contains setting.cells (Planet (landing fleet))
+landing-listed setting state fleet fine is =
+    let flying = fine.flying fleet is in
+    let place_at : (b : Bool) → Contains setting.cells (Planet (cond b fleet.target fleet.origin)) =
+    λ b. elim b as (λ c. Contains setting.cells (Planet (cond c fleet.target fleet.origin))) [
+      | true ↦ fine.listed (Planet fleet.target) (ap is_there flying.reaches)
+      | false ↦ fine.listed (Planet fleet.origin) (ap is_there flying.leaves)
+    ] in
+    place_at fleet.outbound
+
+-- the home of an event that stands is listed
+pub home-listed : (setting : Setting) (state : State) (e : Event) → KeepsRules setting state → Owes (view setting.cells state (home e)) e → Contains setting.cells (home e)
+home-listed setting state (item_due class item later) fine stands = item-listed setting state item fine (queued state class item.cell item later stands item (inl refl)).within
+home-listed setting state (lands fleet) fine stands = landing-listed setting state fleet fine (from-filter (belongs (home (lands fleet))) fleet state.fleets stands).0
+
+-- so the event is
 pub stands-listed : (setting : Setting) (some : CellId → Bool) (second : ℕ) (state : State) (e : Event) → KeepsRules setting state → Owes (view setting.cells state (home e)) e
     → some (home e) ≡ true → second_of e ≤ second → IsIn e (due_events some second (view setting.cells state) setting.cells)
-stands-listed setting some second state (item_due class item later) fine stands inside due =
-    let listed = item-listed setting state item fine (queued state class item.cell item later stands item (inl refl)).within in
-    due-listed some second (view setting.cells state) setting.cells (item_due class item later) item.cell (record { inside = inside; owes = stands; due = due })
-    (in-contained setting.cells item.cell listed)
+stands-listed setting some second state e fine stands inside due =
+    due-listed some second (view setting.cells state) setting.cells e (home e)
+    (record { inside = inside; owes = owed-from (home e) (view setting.cells state (home e)) e refl stands; due = due })
+    (in-contained setting.cells (home e) (home-listed setting state e fine stands))
 
--- what a cell owes is due at home
-pub due-home : (setting : Setting) (some : CellId → Bool) (second : ℕ) (state : State) (e : Event) (cell : CellId) → IsDue some second (view setting.cells state) e cell
-    → IsDue some second (view setting.cells state) e (home e)
-due-home setting some second state (item_due class item later) cell due =
-    let here = owed-home state class cell item later due.owes in
-    subst (IsDue some second (view setting.cells state) (item_due class item later)) (sym here) due
+-- what a cell owes stands, and is due at home
+record IsDueAtHome (some : CellId → Bool) (second : ℕ) (seen : CellId → View) (e : Event) : Type 0 where
+  inside : some (home e) ≡ true
+  owes : Owes (seen (home e)) e
+  due : second_of e ≤ second
+
+due-home : (setting : Setting) (some : CellId → Bool) (second : ℕ) (state : State) (e : Event) (cell : CellId) → IsDue some second (view setting.cells state) e cell
+    → IsDueAtHome some second (view setting.cells state) e
+due-home setting some second state e cell due =
+    let found = at-home setting state cell e due.owes in
+    record {
+      inside = ap some found.here ∙ due.inside;
+      owes = subst (λ x. Owes (view setting.cells state x) e) (sym found.here) found.owes;
+      due = due.due;
+    }
 
 pub found-next : (setting : Setting) (some : CellId → Bool) (second : ℕ) (state : State) (e : Event) → KeepsRules setting state → next_event setting some second state ≡ Some e
     → IsNext (game setting) some second state e

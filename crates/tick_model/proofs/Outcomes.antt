@@ -1,6 +1,9 @@
 -- What comes of a request: nothing is changed, or a planet's own fields are, or an item joins a queue.
-use Rattle.std.proofs.Common.{◌≡◌, ℕ, ◌<◌, ◌≤◌, List, [], ◌∷◌, ◌++◌, true, false, cond, eqb, length, arith, refl, ap, ◌∙◌, sym, subst}
-use Rattle.base_ids.specs.Cells.{same_player}
+use Rattle.std.proofs.Common.{◌≡◌, ℕ, zero, suc, ◌+◌, ◌*◌, ◌/◌, ◌<◌, ◌≤◌, List, [], ◌∷◌, ◌++◌, Bool, true, false, not, cond, eqb, ◌&&◌, Option, None, Some, length, arith, refl, ap, ◌∙◌, sym, subst}
+use Rattle.base_ids.specs.Cells.{same_cell, same_player}
+use Rattle.base_ids.specs.declared.fleet_number.FleetNumber.{FleetNumber}
+use Rattle.base_num.specs.Root.{root}
+use Rattle.base_num.proofs.Quotients.{ceiling_bounds}
 use Rattle.base_ids.specs.declared.coord.Coord.{Coord}
 use Rattle.base_ids.specs.declared.player.Player.{Player}
 use Rattle.base_ids.specs.declared.cell_id.CellId.{CellId}
@@ -8,20 +11,32 @@ use Rattle.base_ids.specs.declared.cell_id.CellId.TheVariants.{Account, Planet}
 use Rattle.catalog.specs.Kinds.{place_in}
 use Rattle.catalog.specs.declared.classes.TheConstants.{UNIT_KINDS}
 use Rattle.catalog.specs.declared.kind.Kind.{Kind}
+use Rattle.catalog.specs.declared.mission.Mission.{Mission}
+use Rattle.catalog.specs.declared.mission.Mission.TheVariants.{Transport, Deploy, Harvest, Attack}
+use Rattle.catalog.specs.declared.ships.TheConstants.{SHIPS}
+use Rattle.flight.specs.Distances.{distance_of}
+use Rattle.flight.specs.Speeds.{fleet_speed}
+use Rattle.flight.specs.Times.{flight_seconds, pace, way}
+use Rattle.laziness.proofs.Bringing.{never}
+use Rattle.reply_text.specs.OrderLines.{back_line}
 use Rattle.request_text.specs.declared.request.Request.{Request}
-use Rattle.request_text.specs.declared.request.Request.TheVariants.{Planet as PlanetOf, Account as AccountOf, Build, Research, Yard as YardOf, Set}
-use Rattle.tick_model.specs.declared.codes.TheConstants.{NOT_YOURS}
+use Rattle.request_text.specs.declared.request.Request.TheVariants.{Planet as PlanetOf, Account as AccountOf, Fleets, System as SystemOf, Build, Research, Yard as YardOf, Set, Send, Join, Recall}
+use Rattle.tick_model.specs.declared.codes.TheConstants.{BAD_MISSION, NO_SHIPS, NOT_BUILT, NOT_OUTBOUND, NOT_YOURS}
 use Rattle.tick_model.specs.Buildings.{pays, started}
-use Rattle.tick_model.specs.Changes.{Change, new_owns, new_queue, no_change, owns}
+use Rattle.tick_model.specs.Changes.{Change, new_fleet, new_owns, new_queue, no_change, owns, sends_fleet}
+use Rattle.tick_model.specs.Flights.{left_by, recalled_at, turned}
+use Rattle.tick_model.specs.Lines.{own_fleets}
 use Rattle.tick_model.specs.Refusals.{build_refusal, research_refusal, yard_refusal}
-use Rattle.tick_model.specs.Requests.{Sight, Outcome, refused, on_own, on_account, queue_seen, with_planet, ordered, queues, queues_research, queues_batch, builds, researches, yards, own_seen, outcome, shows, sets, tells}
+use Rattle.tick_model.specs.Requests.{Sight, Outcome, refused, granted, on_own, on_account, queue_seen, with_planet, ordered, queues, queues_research, queues_batch, builds, researches, yards, own_seen, outcome, shows, sets, tells, tells_fleets, tells_system, errand_of, is_flown, owner_there, recalls, recalls_own, sends, sends_on}
+use Rattle.tick_model.specs.Sending.{Errand, can_go, departed, fleet_of, has_ships, launched, seconds_to, send_refusal, suits}
 use Rattle.tick_model.specs.Researches.{pays_research, started_research}
 use Rattle.tick_model.specs.Rules.{IsBatch, queue_cell}
-use Rattle.tick_model.specs.Universe.{Own, of_nothing, of_account, of_planet, AccountFields, Buildings, Researches, Yard, PlanetFields, Item}
+use Rattle.tick_model.specs.Universe.{Own, of_nothing, of_account, of_planet, AccountFields, Buildings, Researches, Yard, PlanetFields, Fleet, Item}
 use Rattle.tick_model.specs.Yards.{begun, pays_batch}
 use Rattle.tick_model.proofs.Ends.{duration-least, research-least, unit-least}
-use Rattle.tick_model.proofs.Lists.{player-from}
-use Rattle.tick_model.proofs.Owns.{IsAlike, alike-itself, put-alike}
+use Rattle.tick_model.proofs.Fleets.{IsFleetOf, fleet-found}
+use Rattle.tick_model.proofs.Lists.{and-is, not-false, not-true, number-is, player-from}
+use Rattle.tick_model.proofs.Owns.{IsAlike, Stays, alike-itself, put-alike}
 use Rattle.tick_model.proofs.Units.{unit-place}
 
 -- the caller's account and a planet of the caller are seen
@@ -46,12 +61,38 @@ pub record IsOrdered (sight : Sight) (player : Player) (item : Item) : Type 0 wh
   pub runs : queue_seen sight item.cell item.class ≡ [] → sight.moment < item.second
   pub paced : queue_seen sight item.cell item.class ≡ [] → item.class ≡ Yard → 1 ≤ item.unit_seconds
 
+-- A fleet that a request sends from a planet of the caller, which is as before but for its stocks and units. It bears the request's
+-- number, and comes due after the request's moment.
+pub record IsSent (sight : Sight) (player : Player) (own : CellId → Own) (fleet : Fleet) : Type 0 where
+  pub account : AccountFields
+  pub planet : PlanetFields
+  pub departed : PlanetFields
+  pub is_own : IsOwn sight player fleet.origin account planet
+  pub stays : Stays (of_planet planet) (of_planet departed)
+  pub own_is : own ≡ with_planet sight fleet.origin departed
+  pub to : PlanetFields
+  pub reaches : owns sight.seen (Planet fleet.target) ≡ of_planet to
+  pub is_theirs : to.owner ≡ fleet.target_owner
+  pub number : fleet.number ≡ sight.number
+  pub owner : fleet.owner ≡ player
+  pub kinds : length fleet.ships ≡ length SHIPS
+  pub later : fleet.launch < fleet.second
+  pub runs : sight.moment < fleet.second
+  pub is_deployed : fleet.mission ≡ Deploy → fleet.target_owner ≡ fleet.owner
+
+-- what becomes of a fleet that is recalled
+abbrev pub recalled : Sight → Fleet → Option Fleet
+recalled sight fleet = Some (turned fleet (recalled_at fleet sight.moment) fleet.cargo)
+
 -- what a request changes
-pub data Changes (sight : Sight) (player : Player) (change : Change) : Type 0 where
-  nothing : change ≡ no_change sight.seen → Changes sight player change
-  fields : (own : CellId → Own) → AllSeenAlike sight own → change ≡ new_owns own → Changes sight player change
+pub data Changes (sight : Sight) (player : Player) (req : Request) (change : Change) : Type 0 where
+  nothing : change ≡ no_change sight.seen → Changes sight player req change
+  fields : (own : CellId → Own) → AllSeenAlike sight own → change ≡ new_owns own → Changes sight player req change
   joined : (own : CellId → Own) (item : Item) → AllSeenAlike sight own → IsOrdered sight player item
-      → change ≡ new_queue own item.cell item.class (queue_seen sight item.cell item.class ++ item ∷ []) → Changes sight player change
+      → change ≡ new_queue own item.cell item.class (queue_seen sight item.cell item.class ++ item ∷ []) → Changes sight player req change
+  dispatched : (own : CellId → Own) (fleet : Fleet) → IsSent sight player own fleet → change ≡ sends_fleet own fleet → Changes sight player req change
+  called_back : (number : FleetNumber) (fleet : Fleet) → req ≡ Recall number → IsFleetOf player number.f (sight.seen (Account player)).fleets fleet → fleet.outbound ≡ true
+      → change ≡ new_fleet (owns sight.seen) number.f (recalled sight) → Changes sight player req change
 
 -- a planet with the same owner and units is alike
 planet-alike : (sight : Sight) (at : Coord) (planet new : PlanetFields) → owns sight.seen (Planet at) ≡ of_planet planet → IsAlike (of_planet planet) (of_planet new)
@@ -66,44 +107,44 @@ seen-alike sight x = alike-itself (owns sight.seen x)
 some-before : {A : Type 0} (first : Item) (later items : List Item) → first ∷ later ≡ items → items ≡ [] → A
 some-before first later items is none = absurd (let both : first ∷ later ≡ [] = is ∙ none in cc)
 
-queues-change : (sight : Sight) (player : Player) (at : Coord) (kind : Kind) (account : AccountFields) (planet : PlanetFields) (items : List Item) → IsOwn sight player at account planet
-    → items ≡ queue_seen sight (Planet at) Buildings → Changes sight player (queues sight at kind planet items).change
-queues-change sight player at kind account planet [] own is =
+queues-change : (sight : Sight) (player : Player) (req : Request) (at : Coord) (kind : Kind) (account : AccountFields) (planet : PlanetFields) (items : List Item) → IsOwn sight player at account planet
+    → items ≡ queue_seen sight (Planet at) Buildings → Changes sight player req (queues sight at kind planet items).change
+queues-change sight player req at kind account planet [] own is =
     let item = started sight.rules.speed sight.moment planet (ordered sight (Planet at) Buildings at kind 0) in
     let least = duration-least sight.rules.speed planet kind in
     joined (with_planet sight at (pays planet kind)) item (planet-alike sight at planet (pays planet kind) own.there (refl, refl))
     (record { account = account; planet = planet; is_own = own; number = refl; cell = refl; batch = tt; runs = λ none. omega (arith, least); paced = λ none yard. absurd cc })
     (ap (λ items. new_queue (with_planet sight at (pays planet kind)) (Planet at) Buildings (items ++ item ∷ [])) is)
-queues-change sight player at kind account planet (first ∷ later) own is =
+queues-change sight player req at kind account planet (first ∷ later) own is =
     let item = ordered sight (Planet at) Buildings at kind 0 in
     joined (owns sight.seen) item (seen-alike sight)
     (record { account = account; planet = planet; is_own = own; number = refl; cell = refl; batch = tt; runs = λ none. some-before first later _ is none; paced = λ none yard. absurd cc })
     (ap (λ items. new_queue (owns sight.seen) (Planet at) Buildings (items ++ item ∷ [])) is)
 
-research-change : (sight : Sight) (player : Player) (at : Coord) (kind : Kind) (account : AccountFields) (planet : PlanetFields) (items : List Item) → IsOwn sight player at account planet
-    → items ≡ queue_seen sight (Account player) Researches → Changes sight player (queues_research sight player at kind account planet items).change
-research-change sight player at kind account planet [] own is =
+research-change : (sight : Sight) (player : Player) (req : Request) (at : Coord) (kind : Kind) (account : AccountFields) (planet : PlanetFields) (items : List Item) → IsOwn sight player at account planet
+    → items ≡ queue_seen sight (Account player) Researches → Changes sight player req (queues_research sight player at kind account planet items).change
+research-change sight player req at kind account planet [] own is =
     let item = started_research sight.rules.speed sight.moment account planet (ordered sight (Account player) Researches at kind 0) in
     let least = research-least sight.rules.speed account planet kind in
     joined (with_planet sight at (pays_research account planet kind)) item (planet-alike sight at planet (pays_research account planet kind) own.there (refl, refl))
     (record { account = account; planet = planet; is_own = own; number = refl; cell = refl; batch = tt; runs = λ none. omega (arith, least); paced = λ none yard. absurd cc })
     (ap (λ items. new_queue (with_planet sight at (pays_research account planet kind)) (Account player) Researches (items ++ item ∷ [])) is)
-research-change sight player at kind account planet (first ∷ later) own is =
+research-change sight player req at kind account planet (first ∷ later) own is =
     let item = ordered sight (Account player) Researches at kind 0 in
     joined (owns sight.seen) item (seen-alike sight)
     (record { account = account; planet = planet; is_own = own; number = refl; cell = refl; batch = tt; runs = λ none. some-before first later _ is none; paced = λ none yard. absurd cc })
     (ap (λ items. new_queue (owns sight.seen) (Account player) Researches (items ++ item ∷ [])) is)
 
-batch-change : (sight : Sight) (player : Player) (at : Coord) (kind : Kind) (count : ℕ) (account : AccountFields) (planet : PlanetFields) (items : List Item) → IsOwn sight player at account planet
-    → 1 ≤ count → place_in UNIT_KINDS kind < length UNIT_KINDS → items ≡ queue_seen sight (Planet at) Yard → Changes sight player (queues_batch sight at kind count planet items).change
-batch-change sight player at kind count account planet [] own some known is =
+batch-change : (sight : Sight) (player : Player) (req : Request) (at : Coord) (kind : Kind) (count : ℕ) (account : AccountFields) (planet : PlanetFields) (items : List Item) → IsOwn sight player at account planet
+    → 1 ≤ count → place_in UNIT_KINDS kind < length UNIT_KINDS → items ≡ queue_seen sight (Planet at) Yard → Changes sight player req (queues_batch sight at kind count planet items).change
+batch-change sight player req at kind count account planet [] own some known is =
     let new = pays_batch planet kind count in
     let item = begun sight.rules.speed sight.moment planet (ordered sight (Planet at) Yard at kind count) in
     let least = unit-least sight.rules.speed planet kind in
     joined (with_planet sight at new) item (planet-alike sight at planet new own.there (refl, refl))
     (record { account = account; planet = planet; is_own = own; number = refl; cell = refl; batch = (some, known); runs = λ none. omega (arith, least); paced = λ none yard. least })
     (ap (λ items. new_queue (with_planet sight at new) (Planet at) Yard (items ++ item ∷ [])) is)
-batch-change sight player at kind count account planet (first ∷ later) own some known is =
+batch-change sight player req at kind count account planet (first ∷ later) own some known is =
     let new = pays_batch planet kind count in
     let item = ordered sight (Planet at) Yard at kind count in
     joined (with_planet sight at new) item (planet-alike sight at planet new own.there (refl, refl))
@@ -120,50 +161,182 @@ batch-change sight player at kind count account planet (first ∷ later) own som
     (ap (λ items. new_queue (with_planet sight at new) (Planet at) Yard (items ++ item ∷ [])) is)
 
 -- what is refused with a code above 0 changes nothing then
-unless-change : (sight : Sight) (player : Player) (code : ℕ) (grant : Outcome) → Changes sight player grant.change → Changes sight player (cond (eqb code 0) grant (refused sight code)).change
-unless-change sight player code grant granted =
-    elim (eqb code 0) as (λ b. Changes sight player (cond b grant (refused sight code)).change) [ true ↦ granted | false ↦ nothing refl ]
+unless-change : (sight : Sight) (player : Player) (req : Request) (code : ℕ) (grant : Outcome) → Changes sight player req grant.change → Changes sight player req (cond (eqb code 0) grant (refused sight code)).change
+unless-change sight player req code grant granted =
+    elim (eqb code 0) as (λ b. Changes sight player req (cond b grant (refused sight code)).change) [ true ↦ granted | false ↦ nothing refl ]
 
-own-change : (sight : Sight) (player : Player) (at : Coord) (caller there : Own) (grant : AccountFields → PlanetFields → Outcome) → owns sight.seen (Account player) ≡ caller → owns sight.seen (Planet at) ≡ there
-    → ((account : AccountFields) (planet : PlanetFields) → IsOwn sight player at account planet → Changes sight player (grant account planet).change)
-    → Changes sight player (on_own sight player caller there grant).change
-own-change sight player at (of_account account) (of_planet planet) grant caller there granted =
-    elim (same_player planet.owner player) as (λ b. same_player planet.owner player ≡ b → Changes sight player (cond b (grant account planet) (refused sight NOT_YOURS)).change) [
+own-change : (sight : Sight) (player : Player) (req : Request) (at : Coord) (caller there : Own) (grant : AccountFields → PlanetFields → Outcome) → owns sight.seen (Account player) ≡ caller → owns sight.seen (Planet at) ≡ there
+    → ((account : AccountFields) (planet : PlanetFields) → IsOwn sight player at account planet → Changes sight player req (grant account planet).change)
+    → Changes sight player req (on_own sight player caller there grant).change
+own-change sight player req at (of_account account) (of_planet planet) grant caller there granted =
+    elim (same_player planet.owner player) as (λ b. same_player planet.owner player ≡ b → Changes sight player req (cond b (grant account planet) (refused sight NOT_YOURS)).change) [
       | true ↦ λ same. granted account planet (record { caller = caller; there = there; owner = player-from planet.owner player same })
       | false ↦ λ other. nothing refl
     ] refl
-own-change sight player at (of_account account) of_nothing grant caller there granted = nothing refl
-own-change sight player at (of_account account) (of_account other) grant caller there granted = nothing refl
-own-change sight player at of_nothing there grant caller is granted = nothing refl
-own-change sight player at (of_planet planet) there grant caller is granted = nothing refl
+own-change sight player req at (of_account account) of_nothing grant caller there granted = nothing refl
+own-change sight player req at (of_account account) (of_account other) grant caller there granted = nothing refl
+own-change sight player req at of_nothing there grant caller is granted = nothing refl
+own-change sight player req at (of_planet planet) there grant caller is granted = nothing refl
 
-account-change : (sight : Sight) (player : Player) (caller : Own) → Changes sight player (on_account sight caller (tells sight player)).change
-account-change sight player (of_account account) = nothing refl
-account-change sight player of_nothing = nothing refl
-account-change sight player (of_planet planet) = nothing refl
+account-change : (sight : Sight) (player : Player) (req : Request) (caller : Own) (grant : AccountFields → Outcome) → ((account : AccountFields) → Changes sight player req (grant account).change)
+    → Changes sight player req (on_account sight caller grant).change
+account-change sight player req (of_account account) grant granted = granted account
+account-change sight player req of_nothing grant granted = nothing refl
+account-change sight player req (of_planet planet) grant granted = nothing refl
 
-at-own : (sight : Sight) (player : Player) (at : Coord) (grant : AccountFields → PlanetFields → Outcome)
-    → ((account : AccountFields) (planet : PlanetFields) → IsOwn sight player at account planet → Changes sight player (grant account planet).change)
-    → Changes sight player (on_own sight player (own_seen sight (Account player)) (own_seen sight (Planet at)) grant).change
-at-own sight player at grant granted = own-change sight player at (own_seen sight (Account player)) (own_seen sight (Planet at)) grant refl refl granted
+at-own : (sight : Sight) (player : Player) (req : Request) (at : Coord) (grant : AccountFields → PlanetFields → Outcome)
+    → ((account : AccountFields) (planet : PlanetFields) → IsOwn sight player at account planet → Changes sight player req (grant account planet).change)
+    → Changes sight player req (on_own sight player (own_seen sight (Account player)) (own_seen sight (Planet at)) grant).change
+at-own sight player req at grant granted = own-change sight player req at (own_seen sight (Account player)) (own_seen sight (Planet at)) grant refl refl granted
 
-pub outcome-changes : (sight : Sight) (player : Player) (req : Request) → Changes sight player (outcome sight player req).change
-outcome-changes sight player (PlanetOf at) = at-own sight player at (shows sight at) (λ account planet own. nothing refl)
-outcome-changes sight player AccountOf = account-change sight player (own_seen sight (Account player))
+-- what is refused with a code above 0 changes nothing, and else there is no reason to refuse
+unless-refused : (sight : Sight) (player : Player) (req : Request) (code : ℕ) (grant : Outcome) → (code ≡ 0 → Changes sight player req grant.change)
+    → Changes sight player req (cond (eqb code 0) grant (refused sight code)).change
+unless-refused sight player req code grant granted =
+    elim (eqb code 0) as (λ b. eqb code 0 ≡ b → Changes sight player req (cond b grant (refused sight code)).change) [
+      | true ↦ λ none. granted (number-is code 0 none)
+      | false ↦ λ some. nothing refl
+    ] refl
+
+-- a reason that doesn't hold is passed over
+passed : (code rest : ℕ) (holds : Bool) → 1 ≤ code → cond holds code rest ≡ 0 → (holds ≡ false) × (rest ≡ 0)
+passed code rest true some none = absurd (omega (arith, some, none))
+passed code rest false some none = (refl, none)
+
+-- a mission that isn't refused suits the target
+pub send-goes : (player : Player) (account : AccountFields) (fleets : ℕ) (planet : PlanetFields) (target : Own) (errand : Errand) → send_refusal player account fleets planet target errand ≡ 0
+    → (has_ships planet.units errand.ships ≡ true) × (can_go player errand target ≡ true)
+unfolding send_refusal
+send-goes player account fleets planet target errand none =
+    let ships = passed NO_SHIPS _ (not (has_ships planet.units errand.ships)) (omega arith) none in
+    let goes = passed BAD_MISSION _ (not (can_go player errand target)) (omega arith) ships.1 in
+    (not-false (has_ships planet.units errand.ships) ships.0, not-false (can_go player errand target) goes.0)
+
+-- the target is a planet, and a fleet is deployed to the caller's own
+pub record GoesTo (player : Player) (errand : Errand) (target : Own) : Type 0 where
+  pub to : PlanetFields
+  pub reaches : target ≡ of_planet to
+  pub is_deployed : errand.mission ≡ Deploy → to.owner ≡ player
+  pub elsewhere : same_cell (Planet errand.from) (Planet errand.to) ≡ false
+
+deployed-own : (mission : Mission) (b : Bool) (ships : List ℕ) → mission ≡ Deploy → suits mission b ships ≡ true → b ≡ true
+deployed-own Deploy b ships is suits = suits
+deployed-own Transport b ships is suits = absurd cc
+deployed-own Harvest b ships is suits = absurd cc
+deployed-own Attack b ships is suits = absurd cc
+
+pub goes-to : (player : Player) (errand : Errand) (target : Own) → can_go player errand target ≡ true → GoesTo player errand target
+goes-to player errand (of_planet planet) goes =
+    let both = and-is (not (same_cell (Planet errand.from) (Planet errand.to))) (suits errand.mission (same_player planet.owner player) errand.ships) goes in
+    record {
+      to = planet;
+      reaches = refl;
+      is_deployed = λ is. player-from planet.owner player (deployed-own errand.mission (same_player planet.owner player) errand.ships is both.1);
+      elsewhere = not-true (same_cell (Planet errand.from) (Planet errand.to)) both.0;
+    }
+goes-to player errand of_nothing goes = never false goes refl
+goes-to player errand (of_account account) goes = never false goes refl
+
+pub left-kinds : (counts ships : List ℕ) → length (left_by counts ships) ≡ length counts
+left-kinds [] ships = refl
+left-kinds (count ∷ counts) [] = refl
+left-kinds (count ∷ counts) (ship ∷ ships) = let rest = left-kinds counts ships in omega (arith, rest)
+
+pub departed-stays : (account : AccountFields) (planet : PlanetFields) (errand : Errand) → Stays (of_planet planet) (of_planet (departed account planet errand))
+unfolding departed
+departed-stays account planet errand = (refl, left-kinds planet.units errand.ships)
+
+-- a flight takes a second or more
+some-part : (n d q : ℕ) → 1 ≤ n → n ≤ q * d → 1 ≤ q
+some-part n d zero some reaches = absurd (omega (arith, some, reaches))
+some-part n d (suc q) some reaches = omega arith
+
+pub flight-least : (speed : ℕ) (account : AccountFields) (errand : Errand) → 1 ≤ speed → 1 ≤ seconds_to speed account errand
+unfolding seconds_to
+flight-least speed account errand some =
+    let d = distance_of errand.from errand.to in
+    let v = fleet_speed account.techs.n errand.ships in
+    let n = 10 + root (way d / pace v errand.setting) in
+    some-part n speed (flight_seconds d v errand.setting speed) (omega arith) (ceiling_bounds n speed some).reaches
+
+owner-there : (player : Player) (own : Own) (to : PlanetFields) → own ≡ of_planet to → to.owner ≡ owner_there player own
+owner-there player (of_planet planet) to is = let same : planet ≡ to = cc in ap (λ (p : PlanetFields). p.owner) (sym same)
+owner-there player of_nothing to is = absurd cc
+owner-there player (of_account account) to is = absurd cc
+
+-- a fleet that isn't refused is sent
+sends-change : (sight : Sight) (player : Player) (req : Request) (errand : Errand) (account : AccountFields) (planet : PlanetFields) → length errand.ships ≡ length SHIPS
+    → IsOwn sight player errand.from account planet → can_go player errand (own_seen sight (Planet errand.to)) ≡ true → Changes sight player req (sends sight player errand account planet).change
+sends-change sight player req errand account planet kinds own goes =
+    let target = own_seen sight (Planet errand.to) in
+    let to = goes-to player errand target goes in
+    let theirs = owner-there player target to.to to.reaches in
+    let fleet = launched sight.rules.speed sight.number sight.moment player account (owner_there player target) errand in
+    let least = flight-least sight.rules.speed account errand sight.rules.speed_from in
+    dispatched (with_planet sight errand.from (departed account planet errand)) fleet (record {
+      account = account;
+      planet = planet;
+      departed = departed account planet errand;
+      is_own = own;
+      stays = departed-stays account planet errand;
+      own_is = refl;
+      to = to.to;
+      reaches = to.reaches;
+      is_theirs = theirs;
+      number = refl;
+      owner = refl;
+      kinds = kinds;
+      later = omega (arith, least);
+      runs = omega (arith, least);
+      is_deployed = λ is. sym theirs ∙ to.is_deployed is;
+    }) refl
+
+recalls_at : (sight : Sight) (player : Player) (number : FleetNumber) (fleet : Fleet) (b : Bool) → fleet.outbound ≡ b → IsFleetOf player number.f (sight.seen (Account player)).fleets fleet
+    → Changes sight player (Recall number)
+    (cond b (granted (back_line (recalled_at fleet sight.moment)) (new_fleet (owns sight.seen) number.f (recalled sight))) (refused sight NOT_OUTBOUND)).change
+recalls_at sight player number fleet true out theirs = called_back number fleet refl theirs out refl
+recalls_at sight player number fleet false out theirs = nothing refl
+
+recalls-change : (sight : Sight) (player : Player) (number : FleetNumber) (found : Option Fleet) → fleet_of player number.f (sight.seen (Account player)).fleets ≡ found
+    → Changes sight player (Recall number) (recalls sight number.f found).change
+recalls-change sight player number None is = nothing refl
+recalls-change sight player number (Some fleet) is =
+    recalls_at sight player number fleet fleet.outbound refl (fleet-found player number.f (sight.seen (Account player)).fleets fleet is)
+
+flown-change : (sight : Sight) (player : Player) (req : Request) (b : Bool) (grant : Outcome) → Changes sight player req grant.change → Changes sight player req (cond b grant (refused sight NOT_BUILT)).change
+flown-change sight player req true grant granted = granted
+flown-change sight player req false grant granted = nothing refl
+
+pub outcome-changes : (sight : Sight) (player : Player) (req : Request) → Changes sight player req (outcome sight player req).change
+outcome-changes sight player (PlanetOf at) = at-own sight player (PlanetOf at) at (shows sight at) (λ account planet own. nothing refl)
+outcome-changes sight player AccountOf = account-change sight player AccountOf (own_seen sight (Account player)) (tells sight player) (λ account. nothing refl)
 outcome-changes sight player (Build at building) =
-    at-own sight player at (builds sight at building.kind) (λ account planet own.
+    at-own sight player (Build at building) at (builds sight at building.kind) (λ account planet own.
     let items = queue_seen sight (Planet at) Buildings in
-    unless-change sight player (build_refusal account planet items building.kind) (queues sight at building.kind planet items) (queues-change sight player at building.kind account planet items own refl))
+    unless-change sight player (Build at building) (build_refusal account planet items building.kind) (queues sight at building.kind planet items) (queues-change sight player (Build at building) at building.kind account planet items own refl))
 outcome-changes sight player (Research at technology) =
-    at-own sight player at (researches sight player at technology.kind) (λ account planet own.
+    at-own sight player (Research at technology) at (researches sight player at technology.kind) (λ account planet own.
     let items = queue_seen sight (Account player) Researches in
-    unless-change sight player (research_refusal sight.rules.speed account planet items technology.kind) (queues_research sight player at technology.kind account planet items)
-    (research-change sight player at technology.kind account planet items own refl))
+    unless-change sight player (Research at technology) (research_refusal sight.rules.speed account planet items technology.kind) (queues_research sight player at technology.kind account planet items)
+    (research-change sight player (Research at technology) at technology.kind account planet items own refl))
 outcome-changes sight player (YardOf at unit count) =
-    at-own sight player at (yards sight player at unit.kind count.n) (λ account planet own.
+    at-own sight player (YardOf at unit count) at (yards sight player at unit.kind count.n) (λ account planet own.
     let batches = queue_seen sight (Planet at) Yard in
-    unless-change sight player (yard_refusal account (sight.seen (Account player)).units planet batches unit.kind count.n) (queues_batch sight at unit.kind count.n planet batches)
-    (batch-change sight player at unit.kind count.n account planet batches own count.from (unit-place unit.kind unit.class) refl))
+    unless-change sight player (YardOf at unit count) (yard_refusal account (sight.seen (Account player)).units planet batches unit.kind count.n) (queues_batch sight at unit.kind count.n planet batches)
+    (batch-change sight player (YardOf at unit count) at unit.kind count.n account planet batches own count.from (unit-place unit.kind unit.class) refl))
 outcome-changes sight player (Set at work tenths) =
-    at-own sight player at (sets sight at work.kind tenths.n) (λ account planet own. fields (with_planet sight at _) (planet-alike sight at planet _ own.there (refl, refl)) refl)
-outcome-changes sight player _ = nothing refl
+    at-own sight player (Set at work tenths) at (sets sight at work.kind tenths.n) (λ account planet own. fields (with_planet sight at _) (planet-alike sight at planet _ own.there (refl, refl)) refl)
+outcome-changes sight player Fleets = account-change sight player Fleets (own_seen sight (Account player)) (tells_fleets sight player) (λ account. nothing refl)
+outcome-changes sight player (SystemOf system) = account-change sight player (SystemOf system) (own_seen sight (Account player)) (tells_system sight system) (λ account. nothing refl)
+outcome-changes sight player (Send from to mission setting ships cargo) =
+    let req = Send from to mission setting ships cargo in
+    let errand = errand_of from to mission setting.p ships.n cargo in
+    flown-change sight player req (is_flown mission) _ (at-own sight player req from (sends_on sight player errand) (λ account planet own.
+    let fleets = length (own_fleets player (sight.seen (Account player)).fleets) in
+    let target = own_seen sight (Planet to) in
+    unless-refused sight player req (send_refusal player account fleets planet target errand) (sends sight player errand account planet) (λ none.
+    sends-change sight player req errand account planet ships.kinds own (send-goes player account fleets planet target errand none).1)))
+outcome-changes sight player (Recall fleet) =
+    account-change sight player (Recall fleet) (own_seen sight (Account player)) (recalls_own sight player fleet.f) (λ account.
+    recalls-change sight player fleet (fleet_of player fleet.f (sight.seen (Account player)).fleets) refl)
+outcome-changes sight player (Join fleet from to setting ships cargo) = nothing refl

@@ -1,18 +1,20 @@
 -- A request keeps the rules.
-use Rattle.std.proofs.Common.{◌≡◌, ℕ, ◌+◌, ◌≤◌, ◌⊎◌, inl, inr, Bool, true, false, not, eqb, ◌&&◌, List, [], ◌∷◌, ◌++◌, filter, arith, refl, ap, ◌∙◌, sym, subst}
+use Rattle.std.proofs.Common.{◌≡◌, ℕ, ◌+◌, ◌≤◌, ◌⊎◌, inl, inr, Bool, true, false, not, cond, eqb, Some, ◌&&◌, List, [], ◌∷◌, ◌++◌, filter, arith, refl, ap, ◌∙◌, sym, subst}
 use Rattle.std.proofs.lemmas.Bool.Decides.{nat_tests}
 use Rattle.base_ids.specs.Cells.{same_cell}
 use Rattle.base_ids.specs.declared.cell_id.CellId.{CellId}
 use Rattle.laziness.proofs.Bringing.{never, test}
-use Rattle.tick_model.specs.Rules.{AreDistinct, IsIn, IsPlaced, KeepsRules, same_order}
-use Rattle.tick_model.specs.Universe.{Own, Yard, Item, same_class, Setting, State}
+use Rattle.tick_model.specs.Rules.{AreDistinct, IsFlying, IsIn, IsPlaced, KeepsRules, same_order}
+use Rattle.tick_model.specs.Flights.{recalled_at, turned}
+use Rattle.tick_model.specs.Universe.{Own, Yard, Fleet, Item, same_class, Setting, State}
 use Rattle.tick_model.specs.Views.{queue_in, stands_in}
-use Rattle.tick_model.proofs.Lists.{and-is, cell-is, class-is, distinct-append, distinct-filter, distinct-one, fails, from-filter, in-append}
-use Rattle.tick_model.proofs.Owns.{alike-stays}
+use Rattle.tick_model.proofs.Lists.{and-is, apart-append, apart-changed, cell-is, class-is, distinct-append, distinct-filter, distinct-one, fails, from-changed, from-filter, in-append}
+use Rattle.tick_model.proofs.Owns.{alike-stays, stays-itself}
+use Rattle.tick_model.proofs.EventKeeps.{turned-flies}
 use Rattle.tick_model.proofs.Queues.{queue-new, queue-other, queued-in}
-use Rattle.tick_model.proofs.Staying.{AllStay, keeps-owns, placed-still, stay-kinds, stay-listed, stay-owned}
-use Rattle.tick_model.proofs.Writes.{with_owns, with_queue}
-use Rattle.tick_model.proofs.Written.{AllAlike, IsNew, Makes, stays, changed, ordered, standing}
+use Rattle.tick_model.proofs.Staying.{AllStay, flying-still, keeps-owns, placed-still, stay-kinds, stay-listed, stay-owned}
+use Rattle.tick_model.proofs.Writes.{became_at, with_fleet, with_owns, with_queue, with_sent}
+use Rattle.tick_model.proofs.Written.{AllAlike, IsNew, Makes, stays, changed, ordered, sent, recalled, recalled_by, standing}
 
 all-stay : (u : State) (own : CellId → Own) → AllAlike u own → AllStay u.own own
 all-stay u own alike x = alike-stays (u.own x) (own x) (alike x)
@@ -88,16 +90,41 @@ made-paced setting u t own new fine is_new cell batch rest is =
       | inr apart ↦ fine.paced cell batch rest (sym (queue-other own new.cell cell new.class Yard items u apart (standing u new)) ∙ is)
     ]
 
+earlier-fleet : (setting : Setting) (u : State) (fleet : Fleet) → KeepsRules setting u → IsIn fleet u.fleets → fleet.number ≤ u.number + 1
+earlier-fleet setting u fleet fine has = let before : fleet.number ≤ u.number = fine.sent fleet has in omega (arith, before)
+
 numbered : (setting : Setting) (u : State) → KeepsRules setting u → KeepsRules setting (record u { number = u.number + 1 })
 numbered setting u fine = record {
   listed = fine.listed;
+  once = fine.once;
   owned = fine.owned;
   kinds = fine.kinds;
   placed = λ item has. let placed = fine.placed item has in record { planet = placed.planet; stands = placed.stands; cell = placed.cell; batch = placed.batch };
   drawn = λ item has. earlier setting u item fine has;
   distinct = fine.distinct;
   paced = fine.paced;
+  flying = λ fleet is. flying-still u (record u { number = u.number + 1 }) fleet (λ x. stays-itself (u.own x)) (fine.flying fleet is);
+  sent = λ fleet is. earlier-fleet setting u fleet fine is;
+  apart = fine.apart;
 }
+
+-- a fleet flew before, or is the new one
+new-or-old : {A : Type 0} (u : State) (new fleet : Fleet) → IsIn fleet (u.fleets ++ new ∷ []) → (IsIn fleet u.fleets → A) → (fleet ≡ new → A) → A
+new-or-old u new fleet has old one =
+    elim (in-append fleet u.fleets (new ∷ []) has) [
+      | inl before ↦ old before
+      | inr last ↦ elim last [ inl same ↦ one same | inr nothing ↦ absurd nothing ]
+    ]
+
+recalled-flies : (u : State) (t : ℕ) (old new : Fleet) (b : Bool) → cond b (recalled_by t old) (Some old) ≡ Some new → IsFlying u old → IsFlying u new
+recalled-flies u t old new true becomes flying =
+    let same : turned old (recalled_at old t) old.cargo ≡ new = cc in
+    subst (IsFlying u) same (turned-flies u old (recalled_at old t) old.cargo flying)
+recalled-flies u t old new false becomes flying = let same : old ≡ new = cc in subst (IsFlying u) same flying
+
+recalled-number : (t : ℕ) (old new : Fleet) (b : Bool) → cond b (recalled_by t old) (Some old) ≡ Some new → new.number ≡ old.number
+recalled-number t old new true becomes = let same : turned old (recalled_at old t) old.cargo ≡ new = cc in ap (λ (f : Fleet). f.number) (sym same)
+recalled-number t old new false becomes = let same : old ≡ new = cc in ap (λ (f : Fleet). f.number) (sym same)
 
 -- what a request makes of a state keeps the rules, with the next number
 pub fine-made : (setting : Setting) (t : ℕ) (u v : State) → KeepsRules setting u → Makes t u v → KeepsRules setting (record v { number = u.number + 1 })
@@ -109,6 +136,7 @@ fine-made setting t u v fine (ordered own new alike is_new is) =
     let state = record (with_queue own new.cell new.class (queue_in u.items new.cell new.class ++ new ∷ []) u) { number = u.number + 1 } in
     subst (λ s. KeepsRules setting (record s { number = u.number + 1 })) (sym is) (record {
       listed = stay-listed setting own u stay fine;
+      once = fine.once;
       owned = stay-owned setting own u stay fine;
       kinds = stay-kinds setting own u stay fine;
       placed = λ item has. elim (of-old u new item has) [
@@ -121,4 +149,46 @@ fine-made setting t u v fine (ordered own new alike is_new is) =
       ];
       distinct = with-new setting u t new fine is_new;
       paced = made-paced setting u t own new fine is_new;
+      flying = λ fleet is. flying-still u state fleet stay (fine.flying fleet is);
+      sent = λ fleet is. earlier-fleet setting u fleet fine is;
+      apart = fine.apart;
+    })
+fine-made setting t u v fine (sent own new stay is_new is) =
+    let state = record (with_sent own new u) { number = u.number + 1 } in
+    subst (λ s. KeepsRules setting (record s { number = u.number + 1 })) (sym is) (record {
+      listed = stay-listed setting own u stay fine;
+      once = fine.once;
+      owned = stay-owned setting own u stay fine;
+      kinds = stay-kinds setting own u stay fine;
+      placed = λ item has. placed-still u state item stay (fine.placed item has);
+      drawn = λ item has. earlier setting u item fine has;
+      distinct = fine.distinct;
+      paced = fine.paced;
+      flying = λ fleet has. flying-still u state fleet stay (new-or-old u new fleet has (fine.flying fleet) (λ same. subst (IsFlying u) (sym same) is_new.flying));
+      sent = λ fleet has. new-or-old u new fleet has (earlier-fleet setting u fleet fine) (λ same.
+          let number : fleet.number ≡ u.number + 1 = ap (λ (f : Fleet). f.number) same ∙ is_new.number in omega (arith, number));
+      apart = apart-append u.fleets new fine.apart (λ a has.
+          ap (eqb a.number) is_new.number ∙ older a.number u.number (fine.sent a has));
+    })
+fine-made setting t u v fine (recalled own number alike is) =
+    let stay = all-stay u own alike in
+    let state = record (with_fleet own number (recalled_by t) u) { number = u.number + 1 } in
+    subst (λ s. KeepsRules setting (record s { number = u.number + 1 })) (sym is) (record {
+      listed = stay-listed setting own u stay fine;
+      once = fine.once;
+      owned = stay-owned setting own u stay fine;
+      kinds = stay-kinds setting own u stay fine;
+      placed = λ item has. placed-still u state item stay (fine.placed item has);
+      drawn = λ item has. earlier setting u item fine has;
+      distinct = fine.distinct;
+      paced = fine.paced;
+      flying = λ fleet has.
+          let found = from-changed (became_at number (recalled_by t)) fleet u.fleets has in
+          flying-still u state fleet stay (recalled-flies u t found.0 fleet (eqb found.0.number number) found.2 (fine.flying found.0 found.1));
+      sent = λ fleet has.
+          let found = from-changed (became_at number (recalled_by t)) fleet u.fleets has in
+          let same = recalled-number t found.0 fleet (eqb found.0.number number) found.2 in
+          let low = earlier-fleet setting u found.0 fine found.1 in
+          omega (arith, same, low);
+      apart = apart-changed (became_at number (recalled_by t)) u.fleets (λ old new becomes. recalled-number t old new (eqb old.number number) becomes) fine.apart;
     })

@@ -5,8 +5,8 @@ use Rattle.base_ids.specs.declared.cell_id.CellId.{CellId}
 use Rattle.base_ids.specs.declared.cell_id.CellId.TheVariants.{Account, Planet}
 use Rattle.catalog.specs.declared.classes.TheConstants.{UNIT_KINDS}
 use Rattle.tick_model.specs.Requests.{is_there}
-use Rattle.tick_model.specs.Rules.{IsPlaced, KeepsRules, queue_cell}
-use Rattle.tick_model.specs.Universe.{Own, of_planet, PlanetFields, Item, Setting, State}
+use Rattle.tick_model.specs.Rules.{IsFlying, IsPlaced, KeepsRules, queue_cell}
+use Rattle.tick_model.specs.Universe.{Own, of_planet, PlanetFields, Fleet, Item, Setting, State}
 use Rattle.tick_model.proofs.Owns.{Stays, stays-there, still-planet, was-planet}
 use Rattle.tick_model.proofs.Writes.{with_owns}
 
@@ -39,13 +39,34 @@ placed-still old new item stay placed =
       batch = placed.batch;
     }
 
+-- and what a fleet needs of its planets
+pub flying-still : (old new : State) (fleet : Fleet) → AllStay old.own new.own → IsFlying old fleet → IsFlying new fleet
+flying-still old new fleet stay flying =
+    let from = still-planet (old.own (Planet fleet.origin)) (new.own (Planet fleet.origin)) (stay (Planet fleet.origin)) flying.from flying.leaves in
+    let to = still-planet (old.own (Planet fleet.target)) (new.own (Planet fleet.target)) (stay (Planet fleet.target)) flying.to flying.reaches in
+    record {
+      from = from.planet_is;
+      leaves = from.is;
+      is_own = from.owner ∙ flying.is_own;
+      to = to.planet_is;
+      reaches = to.is;
+      is_theirs = to.owner ∙ flying.is_theirs;
+      kinds = flying.kinds;
+      later = flying.later;
+      deployed = flying.deployed;
+    }
+
 pub keeps-owns : (setting : Setting) (own : CellId → Own) (state : State) → AllStay state.own own → KeepsRules setting state → KeepsRules setting (with_owns own state)
 keeps-owns setting own state stay fine = record {
   listed = stay-listed setting own state stay fine;
+  once = fine.once;
   owned = stay-owned setting own state stay fine;
   kinds = stay-kinds setting own state stay fine;
   placed = λ item is. placed-still state (with_owns own state) item stay (fine.placed item is);
   drawn = fine.drawn;
   distinct = fine.distinct;
   paced = fine.paced;
+  flying = λ fleet is. flying-still state (with_owns own state) fleet stay (fine.flying fleet is);
+  sent = fine.sent;
+  apart = fine.apart;
 }

@@ -1,24 +1,34 @@
 -- What a request makes of a state.
-use Rattle.std.proofs.Common.{◌≡◌, ℕ, ◌+◌, ◌<◌, ◌≤◌, ◌⊎◌, [], ◌∷◌, ◌++◌, inl, inr, Bool, true, cond, ◌&&◌, Some, ap, ◌∙◌, sym, subst}
+use Rattle.std.proofs.Common.{◌≡◌, ℕ, ◌+◌, ◌<◌, ◌≤◌, ◌⊎◌, [], ◌∷◌, ◌++◌, inl, inr, Bool, true, cond, eqb, ◌&&◌, ◌||◌, Option, Some, ap, ◌∙◌, sym, subst}
 use Rattle.base_ids.specs.Cells.{same_cell}
 use Rattle.base_ids.specs.declared.coord.Coord.{Coord}
 use Rattle.base_ids.specs.declared.player.Player.{Player}
 use Rattle.base_ids.specs.declared.cell_id.CellId.{CellId}
 use Rattle.base_ids.specs.declared.cell_id.CellId.TheVariants.{Account, Planet}
 use Rattle.laziness.proofs.Bringing.{test}
+use Rattle.laziness.specs.Laws.{Covers, IsClosed}
+use Rattle.base_ids.specs.declared.fleet_number.FleetNumber.{FleetNumber}
+use Rattle.request_text.specs.declared.request.Request.TheVariants.{Recall}
 use Rattle.request_text.specs.declared.entry.Entry.{Entry}
-use Rattle.tick_model.specs.Changes.{Change, new_queue, owns, write}
-use Rattle.tick_model.specs.Requests.{Sight, asked, outcome, queue_seen}
-use Rattle.tick_model.specs.Rules.{IsIn, IsPlaced, queue_cell}
+use Rattle.tick_model.specs.Changes.{Change, new_fleet, new_queue, owns, sends_fleet, write}
+use Rattle.tick_model.specs.Flights.{recalled_at, turned}
+use Rattle.tick_model.specs.Game.{game, own_brings}
+use Rattle.tick_model.specs.Requests.{Sight, asked, is_listed, names, outcome, queue_seen}
+use Rattle.tick_model.specs.Rules.{IsFlying, IsIn, IsPlaced, KeepsRules, queue_cell}
 use Rattle.tick_model.specs.Step.{sight_of}
-use Rattle.tick_model.specs.Universe.{Own, of_planet, QueueClass, Buildings, Researches, Yard, same_class, PlanetFields, Item, Setting, State}
-use Rattle.tick_model.specs.Views.{View, holding, holding_at, queue_in, shown, stands_in, view}
-use Rattle.tick_model.proofs.Asked.{shown-account, shown-planet, shown-there}
-use Rattle.tick_model.proofs.Lists.{and-is, cell-is, class-is, in-append}
-use Rattle.tick_model.proofs.Outcomes.{Changes, nothing, fields, joined, AllSeenAlike, IsOrdered, outcome-changes}
-use Rattle.tick_model.proofs.Owns.{IsAlike, alike-holding, alike-itself, alike-stays, owner_of, stays-owner}
+use Rattle.tick_model.specs.Universe.{Own, of_planet, QueueClass, Buildings, Researches, Yard, same_class, PlanetFields, Fleet, Item, Setting, State}
+use Rattle.tick_model.specs.Views.{View, belongs, holding, holding_at, queue_in, shown, stands_in, view}
+use Rattle.tick_model.proofs.Asked.{in-listed, shown-account, shown-planet, shown-some, shown-there}
+use Rattle.tick_model.proofs.Brought.{brings-own, fleet-listed}
+use Rattle.tick_model.proofs.Effects.{put-stays}
+use Rattle.tick_model.proofs.Fleets.{IsFleetOf, apart-filter, out-flies}
+use Rattle.tick_model.proofs.Landings.{flies-in, turned-belongs}
+use Rattle.tick_model.proofs.Lists.{and-from, and-is, cell-from, cell-is, class-is, fleet-one, in-append, number-is, or-is, or-second, same_number}
+use Rattle.tick_model.proofs.Outcomes.{Changes, nothing, fields, joined, dispatched, called_back, AllSeenAlike, IsOrdered, IsSent, outcome-changes}
+use Rattle.tick_model.proofs.Owns.{IsAlike, Stays, alike-holding, alike-itself, alike-stays, owner_of, stays-itself, stays-owner}
 use Rattle.tick_model.proofs.Queues.{queue-other, queued-in, stands-there}
-use Rattle.tick_model.proofs.Writes.{IsWithin, OwnsWithin, owns_after, shown-own, with_owns, with_queue, within-owns, within-queue, write-nothing, write-owns, write-queue}
+use Rattle.tick_model.proofs.Staying.{AllStay}
+use Rattle.tick_model.proofs.Writes.{IsWithin, OwnsWithin, owns_after, shown-own, with_fleet, with_owns, with_queue, with_sent, within-fleet, within-owns, within-queue, within-sent, write-fleet, write-nothing, write-owns, write-queue, write-sent}
 
 -- a new item: it bears the next number and is in the queue of the right cell; and if none is before it, it comes due after this
 -- moment
@@ -32,12 +42,25 @@ pub record IsNew (state : State) (moment : ℕ) (item : Item) : Type 0 where
 abbrev pub AllAlike : State → (CellId → Own) → Type 0
 AllAlike state own = (x : CellId) → IsAlike (state.own x) (own x)
 
--- but for the last number, a state is as before, or cells have other things of their own, or besides one more item
+-- a new fleet: it bears the next number, flies between planets, and comes due after this moment
+pub record IsNewFleet (state : State) (moment : ℕ) (fleet : Fleet) : Type 0 where
+  pub number : fleet.number ≡ state.number + 1
+  pub flying : IsFlying state fleet
+  pub runs : moment < fleet.second
+
+-- what becomes of a fleet that is recalled at a moment
+abbrev pub recalled_by : ℕ → Fleet → Option Fleet
+recalled_by moment fleet = Some (turned fleet (recalled_at fleet moment) fleet.cargo)
+
+-- but for the last number, a state is as before, or cells have other things of their own, or besides one more item, or one more
+-- fleet, or a fleet that flew out has turned back
 pub data Makes (moment : ℕ) (state new : State) : Type 0 where
   stays : new ≡ state → Makes moment state new
   changed : (own : CellId → Own) → AllAlike state own → new ≡ with_owns own state → Makes moment state new
   ordered : (own : CellId → Own) (item : Item) → AllAlike state own → IsNew state moment item
       → new ≡ with_queue own item.cell item.class (queue_in state.items item.cell item.class ++ item ∷ []) state → Makes moment state new
+  sent : (own : CellId → Own) (fleet : Fleet) → AllStay state.own own → IsNewFleet state moment fleet → new ≡ with_sent own fleet state → Makes moment state new
+  recalled : (own : CellId → Own) (number : ℕ) → AllAlike state own → new ≡ with_fleet own number (recalled_by moment) state → Makes moment state new
 
 -- the cells that an entry asks for, what it can go by, and what it changes
 abbrev pub cells_of : Setting → Entry → State → CellId → Bool
@@ -142,43 +165,204 @@ counted-after setting a t u own item alike new x has =
           subst (λ k. cells (Account k) ≡ true) (sym there.owner ∙ owner_is) there.caller))
     ]
 
+-- Of a set that is ready a request's change stays within the cells that it asks for, and reaches no further than the set.
+
 -- a request's change is within the cells that it asks for, and makes no more of a state
-pub record IsMade (cells : CellId → Bool) (change : Change) (moment : ℕ) (state : State) : Type 0 where
-  pub within : IsWithin cells change state
+pub record IsMade (cells reach : CellId → Bool) (change : Change) (moment : ℕ) (state : State) : Type 0 where
+  pub within : IsWithin cells reach change state
   pub makes : Makes moment state (write cells change state)
 
-owns-within : (setting : Setting) (a : Entry) (t : ℕ) (u : State) (own : CellId → Own) → AllSeenAlike (sight setting a t u) own
-    → OwnsWithin (cells_of setting a u) own (with_owns (owns_after (cells_of setting a u) own u) u) u
-owns-within setting a t u own alike = record {
+either-reached : (cells reach : CellId → Bool) (old new : State) (x : CellId) → ((y : CellId) → cells y ≡ true → reach y ≡ true)
+    → (holding_at new x ≡ holding_at old x) ⊎ ((owner : Player) → owner_of (old.own x) ≡ Some owner → cells (Account owner) ≡ true)
+    → (holding_at new x ≡ holding_at old x) ⊎ ((owner : Player) → owner_of (old.own x) ≡ Some owner → reach (Account owner) ≡ true)
+either-reached cells reach old new x among (inl same) = inl same
+either-reached cells reach old new x among (inr owned) = inr (λ owner is. among (Account owner) (owned owner is))
+
+owns-within : (setting : Setting) (a : Entry) (t : ℕ) (u : State) (reach : CellId → Bool) (own : CellId → Own) → ((y : CellId) → cells_of setting a u y ≡ true → reach y ≡ true)
+    → AllSeenAlike (sight setting a t u) own
+    → OwnsWithin (cells_of setting a u) reach own (with_owns (owns_after (cells_of setting a u) own u) u) u
+owns-within setting a t u reach own among alike = record {
+  among = among;
   owners = owner-after setting a t u own alike;
   counted = λ x has. inl (alike-holding (u.own x) (owns_after (cells_of setting a u) own u x) (queue_in u.items x Yard) (alike-after setting a t u own alike x));
 }
 
-made : (setting : Setting) (a : Entry) (t : ℕ) (u : State) (change : Change) → Changes (sight setting a t u) a.player change → IsMade (cells_of setting a u) change t u
-made setting a t u change (nothing is) =
-    let cells = cells_of setting a u in
-    let own = owns (shown cells (view setting.cells u)) in
-    subst (λ c. IsMade cells c t u) (sym is) (record {
-      within = within-owns cells own u (owns-within setting a t u own (λ x. alike-itself (own x)));
-      makes = stays (write-nothing setting.cells cells u);
-    })
-made setting a t u change (fields own alike is) =
-    let cells = cells_of setting a u in
-    subst (λ c. IsMade cells c t u) (sym is) (record {
-      within = within-owns cells own u (owns-within setting a t u own alike);
-      makes = changed (owns_after cells own u) (alike-after setting a t u own alike) (write-owns cells own u);
-    })
-made setting a t u change (joined own item alike new is) =
-    let cells = cells_of setting a u in
-    let there = ordered-there setting a t u item new in
-    let items = queue_in u.items item.cell item.class ++ item ∷ [] in
-    let all : change ≡ new_queue own item.cell item.class items =
-    is ∙ ap (λ before. new_queue own item.cell item.class (before ++ item ∷ [])) (queue-shown setting a t u item.cell item.class there.queue) in
-    subst (λ c. IsMade cells c t u) (sym all) (record {
-      within = within-queue cells own item.cell item.class items u there.queue
-          (record { owners = owner-after setting a t u own alike; counted = counted-after setting a t u own item alike new }) (standing u item);
-      makes = ordered (owns_after cells own u) item (alike-after setting a t u own alike) (new-there setting a t u item new) (write-queue cells own item.cell item.class items u);
-    })
+module _ (setting : Setting) (a : Entry) (t : ℕ) (S : CellId → Bool) (u : State) (fine : KeepsRules setting u) (covers : Covers (game setting) (view setting.cells u) a S)
+    (closed : IsClosed (game setting) (view setting.cells u) t S) where
+  abbrev cells : CellId → Bool
+  cells = cells_of setting a u
 
-pub request-made : (setting : Setting) (a : Entry) (t : ℕ) (u : State) → IsMade (cells_of setting a u) (change_of setting a t u) t u
-request-made setting a t u = made setting a t u (change_of setting a t u) (outcome-changes (sight setting a t u) a.player a.req)
+  -- A fleet that is sent.
+
+  module _ (own : CellId → Own) (fleet : Fleet) (new : IsSent (sight setting a t u) a.player own fleet) where
+    origin-there : (cells (Planet fleet.origin) ≡ true) × (u.own (Planet fleet.origin) ≡ of_planet new.planet)
+    origin-there = shown-planet cells (view setting.cells u) (Planet fleet.origin) new.planet new.is_own.there
+
+    target-there : (cells (Planet fleet.target) ≡ true) × (u.own (Planet fleet.target) ≡ of_planet new.to)
+    target-there = shown-planet cells (view setting.cells u) (Planet fleet.target) new.to new.reaches
+
+    caller-there : cells (Account a.player) ≡ true
+    caller-there = shown-account cells (view setting.cells u) (Account a.player) new.account new.is_own.caller
+
+    -- the planet that it leaves stays, and so do all others
+    departs-stays : (x : CellId) → Stays (owns (shown cells (view setting.cells u)) x) (own x)
+    departs-stays x =
+        let seen = owns (shown cells (view setting.cells u)) in
+        subst (λ (o : CellId → Own). Stays (seen x) (o x)) (sym new.own_is)
+        (put-stays (Planet fleet.origin) (of_planet new.departed) seen (subst (λ o. Stays o (of_planet new.departed)) (sym new.is_own.there) new.stays) x)
+
+    departs-after : AllStay u.own (owns_after cells own u)
+    departs-after x =
+        elim (test (cells x)) [
+          | inl has ↦
+              subst (λ o. Stays (u.own x) o) (sym (ap (λ b. cond b (own x) (u.own x)) has))
+              (subst (λ o. Stays o (own x)) (shown-own setting.cells cells u x has) (departs-stays x))
+          | inr out ↦ subst (λ o. Stays (u.own x) o) (sym (ap (λ b. cond b (own x) (u.own x)) out)) (stays-itself (u.own x))
+        ]
+
+    new-flies : IsFlying u fleet
+    new-flies = record {
+      from = new.planet;
+      leaves = origin-there.1;
+      is_own = new.is_own.owner ∙ sym new.owner;
+      to = new.to;
+      reaches = target-there.1;
+      is_theirs = new.is_theirs;
+      kinds = new.kinds;
+      later = λ out. new.later;
+      deployed = new.is_deployed;
+    }
+
+    -- all its cells are in the set
+    flies-inside : (x : CellId) → belongs x fleet ≡ true → S x ≡ true
+    flies-inside x has =
+        let near = same_cell (Planet fleet.origin) x || same_cell (Account fleet.owner) x in
+        let far = same_cell (Planet fleet.target) x || same_cell (Account fleet.target_owner) x in
+        elim (or-is near (fleet.outbound && far) has) [
+          | inl here ↦ elim (or-is (same_cell (Planet fleet.origin) x) (same_cell (Account fleet.owner) x) here) [
+            | inl at ↦ subst (λ y. S y ≡ true) (cell-is (Planet fleet.origin) x at) (covers (Planet fleet.origin) origin-there.0)
+            | inr at ↦ subst (λ y. S y ≡ true) (ap Account (sym new.owner) ∙ cell-is (Account fleet.owner) x at) (covers (Account a.player) caller-there)
+          ]
+          | inr there ↦ elim (or-is (same_cell (Planet fleet.target) x) (same_cell (Account fleet.target_owner) x) (and-is fleet.outbound far there).1) [
+            | inl at ↦ subst (λ y. S y ≡ true) (cell-is (Planet fleet.target) x at) (covers (Planet fleet.target) target-there.0)
+            | inr at ↦
+                (let account = cell-is (Account fleet.target_owner) x at in
+                let brought : own_brings (u.own (Planet fleet.target)) (Account fleet.target_owner) ≡ true =
+                ap (λ o. own_brings o (Account fleet.target_owner)) target-there.1 ∙ cell-from (Account new.to.owner) (Account fleet.target_owner) (ap Account new.is_theirs) in
+                subst (λ y. S y ≡ true) account
+                (closed (Planet fleet.target) (covers (Planet fleet.target) target-there.0) (Account fleet.target_owner)
+                (brings-own (view setting.cells u (Planet fleet.target)) t (Account fleet.target_owner) brought)))
+          ]
+        ]
+
+    departs-counted : (x : CellId) → (holding_at (with_sent (owns_after cells own u) fleet u) x ≡ holding_at u x)
+        ⊎ ((owner : Player) → owner_of (u.own x) ≡ Some owner → cells (Account owner) ≡ true)
+    departs-counted x =
+        let seen = owns (shown cells (view setting.cells u)) in
+        elim (test (same_cell (Planet fleet.origin) x)) [
+          | inl here ↦ inr (λ owner is.
+              let planet : u.own x ≡ of_planet new.planet = ap u.own (sym (cell-is (Planet fleet.origin) x here)) ∙ origin-there.1 in
+              let same : Some new.planet.owner ≡ Some owner = sym (ap owner_of planet) ∙ is in
+              let owner_is : new.planet.owner ≡ owner = cc in
+              subst (λ k. cells (Account k) ≡ true) (sym new.is_own.owner ∙ owner_is) caller-there)
+          | inr apart ↦
+              (let put : own x ≡ seen x = ap (λ (o : CellId → Own). o x) new.own_is ∙ ap (λ b. cond b (of_planet new.departed) (seen x)) apart in
+              let stays_there : owns_after cells own u x ≡ u.own x = elim (test (cells x)) [
+                | inl has ↦ ap (λ b. cond b (own x) (u.own x)) has ∙ put ∙ shown-own setting.cells cells u x has
+                | inr out ↦ ap (λ b. cond b (own x) (u.own x)) out
+              ] in
+              inl (ap (λ o. holding o (queue_in u.items x Yard)) stays_there))
+        ]
+
+    sent-made : IsMade cells S (sends_fleet own fleet) t u
+    sent-made = record {
+      within = within-sent cells S own fleet u (record {
+        among = covers;
+        owners = λ x has. stays-owner (owns (shown cells (view setting.cells u)) x) (own x) (departs-stays x) ∙ ap owner_of (shown-own setting.cells cells u x has);
+        counted = λ x has. either-reached cells S u (with_sent (owns_after cells own u) fleet u) x covers (departs-counted x);
+      }) flies-inside;
+      makes = sent (owns_after cells own u) fleet departs-after (record { number = new.number; flying = new-flies; runs = new.runs }) (write-sent cells own fleet u);
+    }
+
+  -- A fleet that is recalled.
+
+  recalled-belongs : (x : CellId) (old new : Fleet) → recalled_by t old ≡ Some new → belongs x new ≡ true → belongs x old ≡ true
+  recalled-belongs x old new is has =
+      let same : turned old (recalled_at old t) old.cargo ≡ new = cc in
+      turned-belongs x old (recalled_at old t) old.cargo (ap (belongs x) same ∙ has)
+
+  module _ (number : FleetNumber) (fleet : Fleet) (is : a.req ≡ Recall number)
+      (theirs : IsFleetOf a.player number.f ((sight setting a t u).seen (Account a.player)).fleets fleet) (out : fleet.outbound ≡ true) where
+    -- the caller's account is asked for, since it shows the fleet
+    caller-asked : cells (Account a.player) ≡ true
+    caller-asked = shown-some cells (view setting.cells u) (Account a.player) fleet theirs.within
+
+    seen-there : (shown cells (view setting.cells u) (Account a.player)) ≡ view setting.cells u (Account a.player)
+    seen-there = shown-there cells (view setting.cells u) (Account a.player) caller-asked
+
+    flies-there : IsFleetOf a.player number.f (view setting.cells u (Account a.player)).fleets fleet
+    flies-there = subst (λ (seen : View). IsFleetOf a.player number.f seen.fleets fleet) seen-there theirs
+
+    flies-among : IsIn fleet u.fleets
+    flies-among = flies-in setting.cells u (Account a.player) fleet flies-there.within
+
+    -- so are all its cells
+    recalled-asked : (x : CellId) → belongs x fleet ≡ true → cells x ≡ true
+    recalled-asked x has =
+        let caller = and-is (is_listed setting.cells (Account a.player) && is_listed setting.cells (Account a.player))
+        (same_cell (Account a.player) (Account a.player) || names (view setting.cells u) a.player a.req (Account a.player)) caller-asked in
+        let listed = and-from (is_listed setting.cells (Account a.player)) (is_listed setting.cells x)
+        (and-is (is_listed setting.cells (Account a.player)) (is_listed setting.cells (Account a.player)) caller.0).0
+        (in-listed setting.cells x (fleet-listed setting u fleet x fine flies-among has)) in
+        let named : names (view setting.cells u) a.player (Recall number) x ≡ true =
+        out-flies a.player number.f x (view setting.cells u (Account a.player)).fleets (apart-filter (belongs (Account a.player)) u.fleets fine.apart)
+        (record { fleet = fleet; is_theirs = flies-there; out = out; has = has }) in
+        and-from (is_listed setting.cells (Account a.player) && is_listed setting.cells x) (same_cell (Account a.player) x || names (view setting.cells u) a.player a.req x) listed
+        (or-second (same_cell (Account a.player) x) (names (view setting.cells u) a.player a.req x) (ap (λ r. names (view setting.cells u) a.player r x) is ∙ named))
+
+    recalled-made : IsMade cells S (new_fleet (owns (shown cells (view setting.cells u))) number.f (recalled_by t)) t u
+    recalled-made =
+        let own = owns (shown cells (view setting.cells u)) in
+        let alike : AllSeenAlike (sight setting a t u) own = λ x. alike-itself (own x) in
+        let counted = (owns-within setting a t u S own covers alike).counted in
+        record {
+          within = within-fleet cells S own number.f (recalled_by t) u
+              (record { among = covers; owners = owner-after setting a t u own alike; counted = counted })
+              recalled-belongs
+              (λ x other is_in same has. covers x (recalled-asked x (subst (λ f. belongs x f ≡ true)
+              (fleet-one u.fleets other fleet fine.apart is_in flies-among
+              (ap (λ n. eqb n fleet.number) (number-is other.number number.f same ∙ sym (number-is fleet.number number.f theirs.number_is)) ∙ same_number fleet.number)) has)));
+          makes = recalled (owns_after cells own u) number.f (alike-after setting a t u own alike) (write-fleet cells own number.f (recalled_by t) u);
+        }
+
+  made : (change : Change) → Changes (sight setting a t u) a.player a.req change → IsMade cells S change t u
+  made change (nothing is) =
+      let own = owns (shown cells (view setting.cells u)) in
+      subst (λ c. IsMade cells S c t u) (sym is) (record {
+        within = within-owns cells S own u (owns-within setting a t u S own covers (λ x. alike-itself (own x)));
+        makes = stays (write-nothing setting.cells cells u);
+      })
+  made change (fields own alike is) =
+      subst (λ c. IsMade cells S c t u) (sym is) (record {
+        within = within-owns cells S own u (owns-within setting a t u S own covers alike);
+        makes = changed (owns_after cells own u) (alike-after setting a t u own alike) (write-owns cells own u);
+      })
+  made change (joined own item alike new is) =
+      let there = ordered-there setting a t u item new in
+      let items = queue_in u.items item.cell item.class ++ item ∷ [] in
+      let all : change ≡ new_queue own item.cell item.class items =
+      is ∙ ap (λ before. new_queue own item.cell item.class (before ++ item ∷ [])) (queue-shown setting a t u item.cell item.class there.queue) in
+      subst (λ c. IsMade cells S c t u) (sym all) (record {
+        within = within-queue cells S own item.cell item.class items u there.queue
+            (record {
+              among = covers;
+              owners = owner-after setting a t u own alike;
+              counted = λ x has. either-reached cells S u (with_queue (owns_after cells own u) item.cell item.class items u) x covers (counted-after setting a t u own item alike new x has);
+            }) (standing u item);
+        makes = ordered (owns_after cells own u) item (alike-after setting a t u own alike) (new-there setting a t u item new) (write-queue cells own item.cell item.class items u);
+      })
+  made change (dispatched own fleet new is) = subst (λ c. IsMade cells S c t u) (sym is) (sent-made own fleet new)
+  made change (called_back number fleet req theirs out is) = subst (λ c. IsMade cells S c t u) (sym is) (recalled-made number fleet req theirs out)
+
+  pub request-made : IsMade cells S (change_of setting a t u) t u
+  request-made = made (change_of setting a t u) (outcome-changes (sight setting a t u) a.player a.req)

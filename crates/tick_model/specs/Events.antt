@@ -1,6 +1,6 @@
 -- The events of a universe, their order, and what each makes of its cells. Rules: docs/RULES.md, "Events" and "What happens in one
 -- second".
-use Rattle.std.specs.Prelude.{◌≡◌, ℕ, List, [], ◌∷◌, ◌++◌, Bool, false, ◌||◌, nat_le, Option, None, Some, filter, if◌then◌else◌}
+use Rattle.std.specs.Prelude.{◌≡◌, ℕ, List, [], ◌∷◌, ◌++◌, Bool, false, ◌||◌, nat_le, Option, None, Some, filter, map, if◌then◌else◌}
 use Rattle.std.specs.List.{list_any}
 use Rattle.base_ids.specs.Cells.{same_cell}
 use Rattle.base_ids.specs.Order.{EventKey, key_before}
@@ -8,38 +8,48 @@ use Rattle.base_ids.specs.declared.cell_id.CellId.{CellId}
 use Rattle.base_ids.specs.declared.cell_id.CellId.TheVariants.{Planet}
 use Rattle.tick_model.specs.declared.rules.Rules.{Rules}
 use Rattle.tick_model.specs.Buildings.{done}
-use Rattle.tick_model.specs.Changes.{Change, new_queue, owns, put_own, write}
+use Rattle.tick_model.specs.Changes.{Change, new_fleet, new_queue, owns, put_own, write}
+use Rattle.tick_model.specs.Flights.{landed, landing, turns}
 use Rattle.tick_model.specs.Researches.{researched}
-use Rattle.tick_model.specs.Universe.{QueueClass, Buildings, Researches, Yard, Item, Setting, State}
-use Rattle.tick_model.specs.Views.{View, shown, view}
+use Rattle.tick_model.specs.Rules.{IsIn}
+use Rattle.tick_model.specs.Universe.{QueueClass, Buildings, Researches, Yard, Item, Fleet, Setting, State}
+use Rattle.tick_model.specs.Views.{View, belongs, shown, view}
 use Rattle.tick_model.specs.Yards.{unit_done}
 
--- An event, as the cell shows it that owes it: the first item of a queue is due, and these stand behind it. A building or a
--- research is done then, and of a batch the next unit.
+-- An event, as the cell shows it that owes it. The first item of a queue is due, and these stand behind it: a building or a
+-- research is done then, and of a batch the next unit. Or a fleet lands, at its target or back at its origin.
 pub data Event : Type 0 where
   item_due : QueueClass → Item → List Item → Event
+  lands : Fleet → Event
 
 -- the second at which it is due
 abbrev pub second_of : Event → ℕ
 second_of (item_due class item later) = item.second
+second_of (lands fleet) = fleet.second
 
 -- the cell that owes it
 abbrev pub home : Event → CellId
 home (item_due class item later) = item.cell
+home (lands fleet) = Planet (landing fleet)
 
--- of what one request ordered, buildings come first, then research, then units
+-- of what one request ordered, buildings come first, then research, then units, then fleets that arrive, then those that are back
 abbrev pub step_of : QueueClass → ℕ
 step_of Buildings = 1
 step_of Researches = 2
 step_of Yard = 3
 
+abbrev pub landing_step : Fleet → ℕ
+landing_step fleet = if fleet.outbound then 4 else 6
+
 -- what orders it among all events
 abbrev pub key_of : Event → EventKey
 key_of (item_due class item later) = record { second = item.second; number = item.number; step = step_of class }
+key_of (lands fleet) = record { second = fleet.second; number = fleet.number; step = landing_step fleet }
 
 -- a cell owes an event, by what is seen of it
 abbrev pub Owes : View → Event → Type 0
 Owes seen (item_due class item later) = seen.queue class ≡ item ∷ later
+Owes seen (lands fleet) = IsIn fleet seen.fleets
 
 -- a cell is a planet that is to pay research that waits
 abbrev pub is_payer : QueueClass → List Item → CellId → Bool
@@ -47,9 +57,11 @@ is_payer Researches waiting cell = list_any (λ item. same_cell (Planet item.pla
 is_payer Buildings waiting cell = false
 is_payer Yard waiting cell = false
 
--- The cells that an event needs and changes: its own, and if a research is done the planets that are to pay those that wait.
+-- The cells that an event needs and changes: its own, and if a research is done the planets that are to pay those that wait; or all
+-- cells of the fleet that lands.
 abbrev pub footprint : Event → CellId → Bool
 footprint (item_due class item later) cell = same_cell item.cell cell || is_payer class later cell
+footprint (lands fleet) cell = belongs cell fleet
 
 -- what it changes of them, by what is seen of them
 abbrev pub event_change : Rules → Event → (CellId → View) → Change
@@ -62,6 +74,10 @@ event_change rules (item_due Researches item later) seen =
 event_change rules (item_due Yard item later) seen =
     let came = unit_done rules.speed item later (owns seen item.cell) in
     new_queue (put_own item.cell came.own (owns seen)) item.cell Yard came.queue
+event_change rules (lands fleet) seen =
+    let place = Planet (landing fleet) in
+    let came = landed fleet (owns seen place) in
+    new_fleet (put_own place came.own (owns seen)) fleet.number (turns came.back)
 
 -- an event acts
 abbrev pub effect : Setting → Event → State → State
@@ -74,19 +90,27 @@ abbrev pub first_due : QueueClass → List Item → List Event
 first_due class [] = []
 first_due class (item ∷ later) = item_due class item later ∷ []
 
+-- the fleets that land at a cell, among those that belong to it
+abbrev pub landings : CellId → List Fleet → List Event
+landings cell fleets = map lands (filter (λ fleet. same_cell (Planet (landing fleet)) cell) fleets)
+
+-- what the queues of a cell bring
+abbrev pub items_owed : View → List Event
+items_owed seen = first_due Buildings (seen.queue Buildings) ++ first_due Researches (seen.queue Researches) ++ first_due Yard (seen.queue Yard)
+
 -- the events that a cell owes
-abbrev pub owed : View → List Event
-owed seen = first_due Buildings (seen.queue Buildings) ++ first_due Researches (seen.queue Researches) ++ first_due Yard (seen.queue Yard)
+abbrev pub owed : CellId → View → List Event
+owed cell seen = items_owed seen ++ landings cell seen.fleets
 
 -- those that are due by a second
-abbrev pub due_by : ℕ → View → List Event
-due_by second seen = filter (λ event. nat_le (second_of event) second) (owed seen)
+abbrev pub due_by : ℕ → CellId → View → List Event
+due_by second cell seen = filter (λ event. nat_le (second_of event) second) (owed cell seen)
 
 -- the events that are due by a second and that some of these cells owe
 abbrev pub due_events : (CellId → Bool) → ℕ → (CellId → View) → List CellId → List Event
 due_events some second seen [] = []
 due_events some second seen (cell ∷ cells) =
-    (if some cell then due_by second (seen cell) else []) ++ due_events some second seen cells
+    (if some cell then due_by second cell (seen cell) else []) ++ due_events some second seen cells
 
 -- the first of two events
 abbrev pub sooner : Event → Option Event → Event

@@ -5,9 +5,11 @@ pub mod Buildings
 pub mod Changes
 pub mod Researches
 pub mod Yards
+pub mod Flights
 pub mod Events
 pub mod Refusals
 pub mod Lines
+pub mod Sending
 pub mod Requests
 pub mod Step
 pub mod Rules

@@ -1,5 +1,7 @@
--- The lines that show a planet and an account. Rules: docs/PROTOCOL.md, "The lines of a planet" and "The lines of an account".
-use Rattle.std.specs.Prelude.{ℕ, ◌+◌, List, [], ◌∷◌, ◌++◌, length}
+-- The lines that show a planet, an account and fleets. Rules: docs/PROTOCOL.md, "The lines of a planet", "The lines of an account" and
+-- "The lines of fleets and systems".
+use Rattle.std.specs.Prelude.{ℕ, ◌+◌, List, [], ◌∷◌, ◌++◌, filter, length, if◌then◌else◌}
+use Rattle.base_ids.specs.Cells.{same_player}
 use Rattle.base_ids.specs.declared.coord.Coord.{Coord}
 use Rattle.base_ids.specs.declared.player.Player.{Player}
 use Rattle.catalog.specs.Technologies.{level_in}
@@ -8,8 +10,11 @@ use Rattle.rates.specs.Stock.{whole}
 use Rattle.rates.specs.declared.resources.Resources.{Resources}
 use Rattle.rates.specs.declared.works.Hourly.{Hourly}
 use Rattle.reply_text.specs.AccountLines.{account_line, own_planet_line, tech_lines}
+use Rattle.reply_text.specs.FleetLines.{fleet_line}
 use Rattle.reply_text.specs.PlanetLines.{debris_line, energy_line, hourly_line, level_lines, limit_line, planet_line, set_lines, stock_line, unit_lines}
 use Rattle.reply_text.specs.QueueLines.{building_line, research_line, waiting_building_line, waiting_research_line, yard_line, yard_waiting_line}
+use Rattle.reply_text.specs.declared.fleet_lines.FleetLine.{FleetLine}
+use Rattle.reply_text.specs.declared.fleet_lines.Stage.TheVariants.{Out, Back}
 use Rattle.reply_text.specs.declared.planet_lines.PlanetHead.{PlanetHead}
 use Rattle.reply_text.specs.declared.queue_lines.RunningBatch.{RunningBatch}
 use Rattle.reply_text.specs.declared.queue_lines.RunningBuilding.{RunningBuilding}
@@ -17,7 +22,7 @@ use Rattle.reply_text.specs.declared.queue_lines.RunningResearch.{RunningResearc
 use Rattle.reply_text.specs.declared.units.Units.{Units}
 use Rattle.tick_model.specs.Production.{limits_of, yields_of}
 use Rattle.tick_model.specs.Refusals.{used_fields}
-use Rattle.tick_model.specs.Universe.{AccountFields, Buildings, Item, PlanetFields, QueueClass, Researches, Yard}
+use Rattle.tick_model.specs.Universe.{AccountFields, Buildings, Fleet, Item, PlanetFields, QueueClass, Researches, Yard}
 use Rattle.tick_model.specs.Views.{View}
 
 abbrev pub units_of : Resources → Units
@@ -82,6 +87,30 @@ planet_text speed at planet queue =
 abbrev pub slots_of : AccountFields → ℕ
 slots_of account = 1 + level_in account.techs.n Computer
 
+-- the fleets of a player
+abbrev pub own_fleets : Player → List Fleet → List Fleet
+own_fleets player fleets = filter (λ fleet. same_player fleet.owner player) fleets
+
+-- what the line of a fleet shows
+abbrev pub flight_of : Fleet → FleetLine
+flight_of fleet =
+    record {
+      number = fleet.number;
+      group = fleet.group;
+      mission = fleet.mission;
+      from = fleet.origin;
+      to = fleet.target;
+      stage = if fleet.outbound then Out else Back;
+      second = fleet.second;
+      cargo = fleet.cargo;
+      ships = fleet.ships;
+    }
+
+-- a line for each fleet
+abbrev pub fleet_lines : List Fleet → List ℕ
+fleet_lines [] = []
+fleet_lines (fleet ∷ later) = fleet_line (flight_of fleet) ++ fleet_lines later
+
 -- a line for each planet of an account
 abbrev pub own_planet_lines : List Coord → List ℕ
 own_planet_lines [] = []
@@ -90,7 +119,7 @@ own_planet_lines (at ∷ later) = own_planet_line at ++ own_planet_lines later
 -- the account itself, its technologies, its planets and its research
 unfoldable pub account_text : Player → AccountFields → View → List ℕ
 account_text player account seen =
-    account_line (record { player = player; units = seen.units; fleets = length seen.fleets; slots = slots_of account })
+    account_line (record { player = player; units = seen.units; fleets = length (own_fleets player seen.fleets); slots = slots_of account })
     ++ tech_lines account.techs.n
     ++ own_planet_lines seen.planets
     ++ queue_lines Researches (seen.queue Researches)

@@ -1,32 +1,51 @@
 -- What comes of each request, by what is seen of the cells that it asks for. Rules: docs/RULES.md, "Requests".
-use Rattle.std.specs.Prelude.{ℕ, ◌+◌, ◌==◌, List, [], ◌∷◌, ◌++◌, Bool, true, false, ◌&&◌, ◌||◌, length, slice_set, if◌then◌else◌}
+use Rattle.std.specs.Prelude.{◌≡◌, ℕ, ◌+◌, ◌==◌, List, [], ◌∷◌, ◌++◌, Bool, true, false, ◌&&◌, ◌||◌, Option, None, Some, length, slice_set, if◌then◌else◌}
 use Rattle.std.specs.List.{list_any}
 use Rattle.base_ids.specs.Cells.{same_cell, same_player}
 use Rattle.base_ids.specs.declared.coord.Coord.{Coord}
 use Rattle.base_ids.specs.declared.player.Player.{Player}
+use Rattle.base_ids.specs.declared.system.System.{System}
 use Rattle.base_ids.specs.declared.cell_id.CellId.{CellId}
 use Rattle.base_ids.specs.declared.cell_id.CellId.TheVariants.{Account, Planet}
 use Rattle.catalog.specs.Kinds.{place_in}
 use Rattle.catalog.specs.declared.classes.TheConstants.{WORKS}
+use Rattle.catalog.specs.declared.amounts.Amounts.{Amounts}
 use Rattle.catalog.specs.declared.kind.Kind.{Kind}
+use Rattle.catalog.specs.declared.mission.Mission.{Mission}
+use Rattle.catalog.specs.declared.mission.Mission.TheVariants.{Transport, Deploy, Harvest, Attack}
 use Rattle.request_text.specs.declared.request.Request.{Request}
-use Rattle.request_text.specs.declared.request.Request.TheVariants.{Planet as PlanetOf, Account as AccountOf, Build, Research, Yard as YardOf, Set}
-use Rattle.reply_text.specs.OrderLines.{starts_line, waits_line}
-use Rattle.tick_model.specs.declared.codes.TheConstants.{NO_PLAYER, NO_PLANET, NOT_YOURS, NOT_BUILT}
+use Rattle.request_text.specs.declared.request.Request.TheVariants.{Planet as PlanetOf, Account as AccountOf, Fleets, System as SystemOf, Build, Research, Yard as YardOf, Set, Send, Join, Recall}
+use Rattle.reply_text.specs.FleetLines.{at_line}
+use Rattle.reply_text.specs.OrderLines.{arrives_line, back_line, starts_line, waits_line}
+use Rattle.reply_text.specs.declared.units.Units.{Units}
+use Rattle.tick_model.specs.declared.codes.TheConstants.{NO_PLAYER, NO_PLANET, NO_FLEET, NOT_OUTBOUND, NOT_YOURS, NOT_BUILT}
 use Rattle.tick_model.specs.declared.rules.Rules.{Rules}
 use Rattle.tick_model.specs.Buildings.{pays, started}
-use Rattle.tick_model.specs.Changes.{Change, new_owns, new_queue, no_change, owns, put_own}
-use Rattle.tick_model.specs.Lines.{account_text, planet_text}
+use Rattle.tick_model.specs.Changes.{Change, new_fleet, new_owns, new_queue, no_change, owns, put_own, sends_fleet}
+use Rattle.tick_model.specs.Flights.{recalled_at, turned}
+use Rattle.tick_model.specs.Lines.{account_text, fleet_lines, own_fleets, planet_text}
 use Rattle.tick_model.specs.Refusals.{build_refusal, research_refusal, yard_refusal}
 use Rattle.tick_model.specs.Researches.{pays_research, started_research}
-use Rattle.tick_model.specs.Universe.{Own, of_nothing, of_account, of_planet, AccountFields, QueueClass, Buildings, Researches, Yard, Item, PlanetFields}
+use Rattle.tick_model.specs.Sending.{Errand, belongs_out, departed, fleet_of, fuel_of, launched, send_refusal}
+use Rattle.tick_model.specs.Universe.{Own, of_nothing, of_account, of_planet, AccountFields, QueueClass, Buildings, Researches, Yard, Fleet, Item, PlanetFields}
 use Rattle.tick_model.specs.Views.{View}
 use Rattle.tick_model.specs.Yards.{begun, pays_batch}
+
+-- the missions that are flown today
+abbrev pub is_flown : Mission → Bool
+is_flown Transport = true
+is_flown Deploy = true
+is_flown Harvest = false
+is_flown Attack = false
 
 -- the forms that are answered today; a line of any other form is no request yet
 abbrev pub IsBuilt : Request → Type 0
 IsBuilt (PlanetOf at) = Unit {0}
 IsBuilt AccountOf = Unit {0}
+IsBuilt Fleets = Unit {0}
+IsBuilt (SystemOf system) = Unit {0}
+IsBuilt (Send from to mission setting ships cargo) = is_flown mission ≡ true
+IsBuilt (Recall fleet) = Unit {0}
 IsBuilt (Build at building) = Unit {0}
 IsBuilt (Research at technology) = Unit {0}
 IsBuilt (YardOf at unit count) = Unit {0}
@@ -39,24 +58,33 @@ is_there of_nothing = false
 is_there (of_account account) = true
 is_there (of_planet planet) = true
 
--- the places that a request names
-abbrev pub names : (CellId → View) → Request → CellId → Bool
-names seen (PlanetOf at) cell = same_cell (Planet at) cell
-names seen (Build at building) cell = same_cell (Planet at) cell
-names seen (Research at technology) cell = same_cell (Planet at) cell
-names seen (YardOf at unit count) cell = same_cell (Planet at) cell
-names seen (Set at work tenths) cell = same_cell (Planet at) cell
-names seen _ cell = false
+-- a planet of a system
+abbrev pub in_system : System → CellId → Bool
+in_system system (Planet at) = at.g == system.g && at.s == system.s
+in_system system (Account player) = false
+
+-- The cells that a request names: the places, the planets of a system, or the cells of the caller's fleet that flies out, by what is
+-- seen of the caller's account.
+abbrev pub names : (CellId → View) → Player → Request → CellId → Bool
+names seen player (PlanetOf at) cell = same_cell (Planet at) cell
+names seen player (SystemOf system) cell = in_system system cell
+names seen player (Build at building) cell = same_cell (Planet at) cell
+names seen player (Research at technology) cell = same_cell (Planet at) cell
+names seen player (YardOf at unit count) cell = same_cell (Planet at) cell
+names seen player (Set at work tenths) cell = same_cell (Planet at) cell
+names seen player (Send from to mission setting ships cargo) cell = same_cell (Planet from) cell || same_cell (Planet to) cell
+names seen player (Recall fleet) cell = belongs_out cell (fleet_of player fleet.f (seen (Account player)).fleets)
+names seen player _ cell = false
 
 -- a cell is in a directory
 abbrev pub is_listed : List CellId → CellId → Bool
 is_listed cells cell = list_any (same_cell cell) cells
 
--- The cells that a request asks for, among those of the directory: the caller's account, and the places that it names.
+-- The cells that a request asks for, among those of the directory: the caller's account, and those that it names.
 -- A caller whose account isn't in it asks for none.
 abbrev pub asked : List CellId → (CellId → View) → Player → Request → CellId → Bool
 asked cells seen player req cell =
-    is_listed cells (Account player) && is_listed cells cell && (same_cell (Account player) cell || names seen req cell)
+    is_listed cells (Account player) && is_listed cells cell && (same_cell (Account player) cell || names seen player req cell)
 
 -- what a request can go by: the rules, the directory, its own number and moment, and what is seen of the cells
 pub record Sight : Type 0 where
@@ -181,13 +209,75 @@ abbrev pub sets : Sight → Coord → Kind → ℕ → AccountFields → PlanetF
 sets sight at kind tenths account planet =
     granted [] (new_owns (with_planet sight at (record planet { tenths = slice_set planet.tenths (place_in WORKS kind) tenths })))
 
+-- `fleets`: the caller's fleets are shown
+abbrev pub tells_fleets : Sight → Player → AccountFields → Outcome
+tells_fleets sight player account = granted (fleet_lines (own_fleets player (sight.seen (Account player)).fleets)) (no_change sight.seen)
+
+-- the line of a planet that a system has at a cell
+abbrev pub at_line_of : CellId → Own → List ℕ
+at_line_of (Planet at) (of_planet planet) = at_line at planet.owner planet.debris.metal planet.debris.crystal
+at_line_of _ own = []
+
+-- a line for each planet of a system, in the order of the directory
+abbrev pub system_lines : System → (CellId → View) → List CellId → List ℕ
+system_lines system seen [] = []
+system_lines system seen (cell ∷ later) =
+    (if in_system system cell then at_line_of cell (seen cell).own else []) ++ system_lines system seen later
+
+-- `system G:S`: its planets are shown
+abbrev pub tells_system : Sight → System → AccountFields → Outcome
+tells_system sight system account = granted (system_lines system sight.seen sight.cells) (no_change sight.seen)
+
 -- what the caller's account and a place have of their own
 abbrev pub own_seen : Sight → CellId → Own
 own_seen sight cell = (sight.seen cell).own
 
+-- whose a target is
+abbrev pub owner_there : Player → Own → Player
+owner_there player (of_planet planet) = planet.owner
+owner_there player _ = player
+
+-- a fleet leaves: the origin has paid and is without its ships
+abbrev pub sends : Sight → Player → Errand → AccountFields → PlanetFields → Outcome
+sends sight player errand account planet =
+    let fleet = launched sight.rules.speed sight.number sight.moment player account (owner_there player (own_seen sight (Planet errand.to))) errand in
+    granted (arrives_line fleet.second (fuel_of account errand))
+    (sends_fleet (with_planet sight errand.from (departed account planet errand)) fleet)
+
+-- `send A B MISSION SETTING SHIPS CARGO`
+abbrev pub sends_on : Sight → Player → Errand → AccountFields → PlanetFields → Outcome
+sends_on sight player errand account planet =
+    let fleets = length (own_fleets player (sight.seen (Account player)).fleets) in
+    unless sight (send_refusal player account fleets planet (own_seen sight (Planet errand.to)) errand) (sends sight player errand account planet)
+
+-- `recall F`: the caller's fleet turns back, with what it has. It is refused with 13 if the caller has no such fleet, and 14 if it
+-- is on its way back.
+abbrev pub recalls : Sight → ℕ → Option Fleet → Outcome
+recalls sight number None = refused sight NO_FLEET
+recalls sight number (Some fleet) =
+    if fleet.outbound
+    then granted (back_line (recalled_at fleet sight.moment))
+    (new_fleet (owns sight.seen) number (λ flown. Some (turned flown (recalled_at flown sight.moment) flown.cargo)))
+    else refused sight NOT_OUTBOUND
+
+abbrev pub recalls_own : Sight → Player → ℕ → AccountFields → Outcome
+recalls_own sight player number account = recalls sight number (fleet_of player number (sight.seen (Account player)).fleets)
+
 -- what comes of a request about the caller's own planet at a place
 abbrev pub at_own : Sight → Player → Coord → (AccountFields → PlanetFields → Outcome) → Outcome
 at_own sight player at grant = on_own sight player (own_seen sight (Account player)) (own_seen sight (Planet at)) grant
+
+-- the errand that a request sends a fleet on
+abbrev pub errand_of : Coord → Coord → Mission → ℕ → List ℕ → Amounts → Errand
+errand_of from to mission setting ships cargo =
+    record {
+      from = from;
+      to = to;
+      mission = mission;
+      setting = setting;
+      ships = ships;
+      cargo = record { metal = cargo.m; crystal = cargo.c; deuterium = cargo.d };
+    }
 
 -- What comes of a request. No line of a form that isn't built yet makes an entry; since the definition is of every request, such a
 -- form is refused here with a code that no text shows.
@@ -198,4 +288,11 @@ outcome sight player (Build at building) = at_own sight player at (builds sight 
 outcome sight player (Research at technology) = at_own sight player at (researches sight player at technology.kind)
 outcome sight player (YardOf at unit count) = at_own sight player at (yards sight player at unit.kind count.n)
 outcome sight player (Set at work tenths) = at_own sight player at (sets sight at work.kind tenths.n)
-outcome sight player _ = refused sight NOT_BUILT
+outcome sight player Fleets = on_account sight (own_seen sight (Account player)) (tells_fleets sight player)
+outcome sight player (SystemOf system) = on_account sight (own_seen sight (Account player)) (tells_system sight system)
+outcome sight player (Send from to mission setting ships cargo) =
+    if is_flown mission
+    then at_own sight player from (sends_on sight player (errand_of from to mission setting.p ships.n cargo))
+    else refused sight NOT_BUILT
+outcome sight player (Recall fleet) = on_account sight (own_seen sight (Account player)) (recalls_own sight player fleet.f)
+outcome sight player (Join fleet from to setting ships cargo) = refused sight NOT_BUILT

@@ -4,8 +4,10 @@ use Rattle.base_ids.specs.declared.coord.Coord.{Coord}
 use Rattle.base_ids.specs.declared.player.Player.{Player}
 use Rattle.base_ids.specs.declared.cell_id.CellId.{CellId}
 use Rattle.catalog.specs.declared.kind.Kind.{Kind}
+use Rattle.catalog.specs.declared.mission.Mission.{Mission}
 use Rattle.catalog.specs.declared.techs.Techs.{Techs}
 use Rattle.rates.specs.declared.resources.Resources.{Resources}
+use Rattle.reply_text.specs.declared.units.Units.{Units}
 use Rattle.tick_model.specs.declared.rules.Rules.{Rules}
 use Rattle.tick_model.specs.declared.debris.Debris.{Debris}
 
@@ -59,15 +61,23 @@ pub record Item : Type 0 where
   pub unit_seconds : ℕ
   pub second : ℕ
 
--- a fleet: the number of the request that sent it, where it flies, and who owns it and its target.
--- No request sends one yet.
+-- A fleet: the number of the request that sent it; its group, which is the same number if it joined nobody; its owner; its mission; its
+-- origin and its target, and who owned the target when it was sent; whether it flies out or back; its speed setting; the second at
+-- which it was sent, and the one at which it arrives or is back; its cargo in whole units; and its ships in the order of SHIPS.
 pub record Fleet : Type 0 where
   pub number : ℕ
+  pub group : ℕ
   pub owner : Player
+  pub mission : Mission
   pub origin : Coord
   pub target : Coord
   pub target_owner : Player
   pub outbound : Bool
+  pub setting : ℕ
+  pub launch : ℕ
+  pub second : ℕ
+  pub cargo : Units
+  pub ships : List ℕ
 
 -- what can change: the number of the last request, what each cell has of its own, and all items and all fleets in one list each
 pub record State : Type 0 where

@@ -8,7 +8,7 @@ use Rattle.base_ids.specs.declared.cell_id.CellId.TheVariants.{Account, Planet}
 use Rattle.tick_model.specs.Universe.{Own, of_nothing, of_planet, QueueClass, Yard, same_class, Item, Fleet, State}
 
 -- What is seen of a cell: what it has of its own; its queues; the fleets that belong to it; and of an account its planets, in
--- the order of the directory, and how many units they have, those of their yards included.
+-- the order of the directory, and how many units it has on them, in their yards and in its fleets.
 pub record View : Type 0 where
   pub own : Own
   pub queue : QueueClass → List Item
@@ -66,10 +66,14 @@ abbrev pub planets_of : List CellId → (CellId → Option Holding) → CellId �
 planets_of cells held (Account player) = filter_map (λ cell. place_held player cell (held cell)) cells
 planets_of cells held (Planet at) = []
 
--- the units of an account
-abbrev pub units_of : List CellId → (CellId → Option Holding) → CellId → ℕ
-units_of cells held (Account player) = sum_by (λ cell. units_held player (held cell)) cells
-units_of cells held (Planet at) = 0
+-- how many ships a fleet has, if it is this player's
+abbrev pub ships_of : Player → Fleet → ℕ
+ships_of player fleet = if same_player fleet.owner player then sum fleet.ships else 0
+
+-- the units of an account: those of its planets, and the ships of its fleets
+abbrev pub units_of : List CellId → (CellId → Option Holding) → List Fleet → CellId → ℕ
+units_of cells held fleets (Account player) = sum_by (λ cell. units_held player (held cell)) cells + sum_by (ships_of player) fleets
+units_of cells held fleets (Planet at) = 0
 
 abbrev pub view : List CellId → State → CellId → View
 view cells state cell =
@@ -78,7 +82,7 @@ view cells state cell =
       queue = queue_in state.items cell;
       fleets = filter (belongs cell) state.fleets;
       planets = planets_of cells (holding_at state) cell;
-      units = units_of cells (holding_at state) cell;
+      units = units_of cells (holding_at state) state.fleets cell;
     }
 
 -- nothing of any cell but these is shown

@@ -19,8 +19,26 @@ pub const REQUIRES: u8 = 6;
 /// The levels and the buildings that are queued reach the planet's fields.
 pub const NO_FIELDS: u8 = 7;
 
+/// The planet has fewer ships of a kind than are to be sent.
+pub const NO_SHIPS: u8 = 8;
+
+/// No planet stands at the target, or it is the origin, or the mission doesn't suit it or the ships.
+pub const BAD_MISSION: u8 = 9;
+
+/// The account has as many fleets as it may have.
+pub const NO_SLOT: u8 = 10;
+
+/// Cargo and fuel don't fit into the ships.
+pub const NO_ROOM: u8 = 11;
+
 /// The planet can't pay.
 pub const POOR: u8 = 12;
+
+/// The caller has no fleet of that number.
+pub const NO_FLEET: u8 = 13;
+
+/// The fleet is on its way back.
+pub const NOT_OUTBOUND: u8 = 14;
 
 /// The account's units, those that are ordered included, would be more than `catalog::UNITS`.
 pub const CEILING: u8 = 17;

@@ -2,13 +2,11 @@
 use Rattle.std.proofs.Common.{◌≡◌, ℕ, suc, ◌+◌, ◌-◌, ◌<◌, ◌≤◌, true, inl, inr, List, Option, None, Some, arith, refl, ap, ◌∙◌, sym, subst}
 use Rattle.std.specs.Prelude.{is_some, option_map}
 use Rattle.base_ids.specs.declared.cell_id.CellId.{CellId}
-use Rattle.happenings.specs.Applying.{CanHappen}
-use Rattle.happenings.specs.Coming.{ActsIn, FindsFirst}
-use Rattle.happenings.specs.Due.{IsFirstDue}
+use Rattle.happenings.specs.Coming.{ActsIn, CanHappen, FindsFirst}
 use Rattle.happenings.specs.Gaining.{AreBehind, Gains, GainsIn, gained as stand_gained}
 use Rattle.happenings.specs.Held.{IsEqual, IsNamed, Shows, ShowsCell, held_at, holds}
 use Rattle.happenings.specs.Sights.{names_held}
-use Rattle.happenings.specs.declared.due.Due.{Due}
+use Rattle.happenings.specs.declared.happening.Happening.{Happening}
 use Rattle.happenings.specs.declared.held.Held.{Held}
 use Rattle.laziness.proofs.Bringing.{at-inside, early, stands-before, view-inside}
 use Rattle.laziness.proofs.Seconds.{Ticks, gained, stand, ticks}
@@ -120,16 +118,15 @@ module _ (base : Universe) (history : List Entry) (rules : Rules) (second : ℕ)
           ((game_laws base.setting).advance_fine (λ x. 1) state is-base.fine) due-later (omega arith);
     }
 
-    pub event-happens : (now : Held) (due : Due) → Courses AreEqual rules later (second + 1) now → FindsFirst now (second + 1) (Some due) → IsFirstDue now (second + 1) due → second + 1 ≤ LATEST
-        → CanHappen now due
-    event-happens now due course finds first latest =
-        can-happen AreEqual rules later now (second + 1) course due finds base.setting (stand (game base.setting) (second + 1) (gained (game base.setting) state)) can-go-on first latest
+    pub event-happens : (now : Held) (what : Happening) → Courses AreEqual rules later (second + 1) now → FindsFirst now (second + 1) (Some what) → second + 1 ≤ LATEST → CanHappen now what
+    event-happens now what course finds latest =
+        can-happen AreEqual rules later now (second + 1) course what finds base.setting (stand (game base.setting) (second + 1) (gained (game base.setting) state)) can-go-on latest
 
     -- and fewer events are left then
-    pub event-falls : (now : Held) (due : Due) → Courses AreEqual rules later (second + 1) now → FindsFirst now (second + 1) (Some due) → (new : Held) → ActsIn rules due now new → HoldsSame now new
+    pub event-falls : (now : Held) (what : Happening) → Courses AreEqual rules later (second + 1) now → FindsFirst now (second + 1) (Some what) → (new : Held) → ActsIn rules what now new → HoldsSame now new
         → waiting_in new (names_held later) < waiting_in now (names_held later)
-    event-falls now due course finds new acts same =
-        course-falls AreEqual rules later now (second + 1) course due finds new acts same base.setting (stand (game base.setting) (second + 1) (gained (game base.setting) state)) can-go-on
+    event-falls now what course finds new acts same =
+        course-falls AreEqual rules later now (second + 1) course what finds base.setting (stand (game base.setting) (second + 1) (gained (game base.setting) state)) can-go-on new acts same
 
     -- and once nothing is due, the second has passed
     pub second-passed : (now : Held) → Courses AreEqual rules later (second + 1) now → FindsFirst now (second + 1) None → AreWorld base history rules (second + 1) now

@@ -29,7 +29,7 @@ due-alike some other second seen [] same = refl
 due-alike some other second seen (cell ∷ cells) same =
     let here = same cell (ap (λ b. b || is_listed cells cell) (same_cell_itself cell)) in
     let later = due-alike some other second seen cells (λ x is. same x (either (same_cell x cell) (is_listed cells x) is)) in
-    λ i. cond (here i) (due_by second (seen cell)) [] ++ later i
+    λ i. cond (here i) (due_by second cell (seen cell)) [] ++ later i
 
 module _ (setting : Setting) (S : CellId → Bool) (all : (cell : CellId) → S cell ≡ is_listed setting.cells cell) where
   -- so all cells of the directory are as good as all cells

@@ -18,7 +18,8 @@ use std::alloc::{AllocError, Global};
 use std::process::Abort;
 use std::test::Fail;
 
-/// Three players with six planets, at a speed at which buildings, technologies and units take seconds and minutes.
+/// Three players with six planets and some ships, at a speed at which buildings, technologies, units and flights take seconds and
+/// minutes.
 const FOUNDING: &[u8] = b"universe 7 60 10000 100
 player 1
 player 2
@@ -27,6 +28,7 @@ tech 1 energy 3
 tech 1 laser 6
 tech 1 combustion 6
 tech 1 espionage 2
+tech 1 computer 3
 tech 2 combustion 1
 tech 2 impulse 3
 tech 2 computer 10
@@ -54,7 +56,11 @@ level 1:1:5 robotics 10
 level 1:1:5 shipyard 4
 level 1:1:6 shipyard 1
 level 1:1:6 lab 1
-units 1:1:1 smallcargo 3
+units 1:1:1 smallcargo 30
+units 1:1:2 largecargo 4
+units 1:1:4 smallcargo 20
+units 1:1:5 largecargo 10
+units 1:1:6 smallcargo 5
 units 1:1:5 smalldome 1
 stock 1:1:1 400000 300000 90000
 stock 1:1:2 90000 60000 20000
@@ -100,14 +106,20 @@ enum Form {
     Build,
     Research,
     Yard,
+    Fleets,
+    System,
+    Send,
+    Recall,
 }
 
-/// How many requests were granted of three forms.
+/// How many requests were granted of five forms.
 #[derive(Clone, Copy, Debug)]
 struct Granted {
     builds: u32,
     research: u32,
     batches: u32,
+    flights: u32,
+    recalls: u32,
 }
 
 impl Granted {
@@ -116,6 +128,8 @@ impl Granted {
             Form::Build => self.builds = self.builds.saturating_add(1),
             Form::Research => self.research = self.research.saturating_add(1),
             Form::Yard => self.batches = self.batches.saturating_add(1),
+            Form::Send => self.flights = self.flights.saturating_add(1),
+            Form::Recall => self.recalls = self.recalls.saturating_add(1),
             _ => {}
         }
     }
@@ -123,13 +137,17 @@ impl Granted {
 
 /// The form of the next request: mostly an order.
 fn form_of(draws: &mut Draws) -> Form {
-    match draws.below(12) {
+    match draws.below(21) {
         0 => Form::Planet,
         1 => Form::Account,
         2 => Form::Set,
         3..=5 => Form::Build,
         6..=8 => Form::Research,
-        _ => Form::Yard,
+        9..=11 => Form::Yard,
+        12 => Form::Fleets,
+        13 => Form::System,
+        14..=17 => Form::Send,
+        _ => Form::Recall,
     }
 }
 
@@ -145,12 +163,33 @@ fn asker_of(draws: &mut Draws) -> (u32, u32) {
     }
 }
 
-/// A line of this form at a reading.
+/// A fleet is sent, mostly with enough ships, and at times farther than it can go: to nowhere, to where it starts, or with a cargo that
+/// is too large.
+fn send_of(
+    alloc: Global,
+    draws: &mut Draws,
+    position: u32,
+    player: u32,
+    reading: u64,
+) -> Result<String, AllocError> {
+    let target = draws.below(7) + 1;
+    let mission = ["transport", "deploy"][draws.below(2) as usize];
+    let setting = 10 - draws.below(4);
+    let ship = ["smallcargo", "largecargo"][draws.below(2) as usize];
+    let count = draws.below(3) + 1;
+    let cargo = draws.below(3000);
+    format!(in alloc;
+        "@{reading} {player} send 1:1:{position} 1:1:{target} {mission} {setting} {ship}={count} {cargo} {cargo} 0"
+    )
+}
+
+/// A line of this form at a reading, where the last fleet that was sent has this number.
 fn line_of(
     alloc: Global,
     draws: &mut Draws,
     form: Form,
     reading: u64,
+    sent: u64,
 ) -> Result<String, AllocError> {
     let (position, player) = asker_of(draws);
     match form {
@@ -173,6 +212,13 @@ fn line_of(
             let unit = UNIT_KINDS[draws.below(22) as usize].word();
             let count = draws.below(9) + 1;
             format!(in alloc; "@{reading} {player} yard 1:1:{position} {unit} {count}")
+        }
+        Form::Fleets => format!(in alloc; "@{reading} {player} fleets"),
+        Form::System => format!(in alloc; "@{reading} {player} system 1:1"),
+        Form::Send => send_of(alloc, draws, position, player, reading),
+        Form::Recall => {
+            let fleet = sent.saturating_sub(u64::from(draws.below(2))).max(1);
+            format!(in alloc; "@{reading} {player} recall {fleet}")
         }
     }
 }
@@ -233,6 +279,14 @@ fn ask_lazy(
     Ok(())
 }
 
+/// The number of the last fleet that was sent, after a request of this form and number was granted.
+fn last_sent(form: Form, number: u64, sent: u64) -> u64 {
+    match form {
+        Form::Send => number,
+        _ => sent,
+    }
+}
+
 /// Plays a script of so many lines that is drawn from a seed, and compares all cells some time after it. It tells what was
 /// granted.
 fn play(rt: &impl Abort, alloc: Global, seed: u64, lines: u32) -> Result<Granted, Fail> {
@@ -241,17 +295,21 @@ fn play(rt: &impl Abort, alloc: Global, seed: u64, lines: u32) -> Result<Granted
     let mut lazy = LazyUniverse::new(alloc, &base)?;
     let mut draws = Draws::new(seed, 1);
     let mut second = 0;
+    let mut sent = 0;
     let mut granted = Granted {
         builds: 0,
         research: 0,
         batches: 0,
+        flights: 0,
+        recalls: 0,
     };
     'lines: for _ in 0..lines {
         second = later(&mut draws, second);
         let form = form_of(&mut draws);
-        let line = line_of(alloc, &mut draws, form, second)?;
+        let line = line_of(alloc, &mut draws, form, second, sent)?;
         if ask_both(rt, alloc, &mut slow, &mut lazy, &line)? == 0 {
             granted.count(form);
+            sent = last_sent(form, slow.number, sent);
         }
     }
     let end = second.saturating_add(100);
@@ -271,9 +329,13 @@ fn play(rt: &impl Abort, alloc: Global, seed: u64, lines: u32) -> Result<Granted
 #[test]
 fn the_slow_program_and_the_lazy_one_agree(rt: HostRuntime) -> Result<(), Fail> {
     'seeds: for seed in 0..6 {
-        let granted = play(&rt, rt.alloc(), seed, 300)?;
+        let granted = play(&rt, rt.alloc(), seed, 500)?;
         assert!(rt;
-            granted.builds > 20 && granted.research > 5 && granted.batches > 5,
+            granted.builds > 20 && granted.research > 2 && granted.batches > 0,
+            "seed {seed}: {granted:?}"
+        );
+        assert!(rt;
+            granted.flights > 8 && granted.recalls > 0,
             "seed {seed}: {granted:?}"
         );
     }

@@ -79,7 +79,15 @@ impl TickingUniverse {
     {
         let moment = reading.max(self.moment);
         let cells = pass(alloc, &self.rules, &self.cells, self.moment, moment)?;
-        let plan = prepare(alloc, &self.rules, &cells, player, req, moment)?;
+        let plan = prepare(
+            alloc,
+            &self.rules,
+            &self.places,
+            &cells,
+            player,
+            req,
+            moment,
+        )?;
         let (cells, reply) = plan.finish(self.number + 1);
         self.cells = cells;
         self.moment = moment;

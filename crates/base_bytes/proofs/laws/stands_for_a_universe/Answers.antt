@@ -1,4 +1,4 @@
-use Rattle.base_bytes.proofs.Seen.{account-shown, nothing-shown, planet-shown}
+use Rattle.base_bytes.proofs.Seen.{account-shown, fleets-in-order, nothing-shown, planet-shown}
 use Rattle.base_bytes.proofs.Bases.{sound-base}
 use Rattle.base_bytes.proofs.laws.stands_for_a_universe.Goals as goal
 
@@ -13,3 +13,6 @@ returns-clause-planets c = planet-shown
 
 pub returns-clause-others : goal.returns-clause-others
 returns-clause-others c = nothing-shown
+
+pub returns-clause-fleets : goal.returns-clause-fleets
+returns-clause-fleets c = fleets-in-order

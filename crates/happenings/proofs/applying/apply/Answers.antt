@@ -1,11 +1,21 @@
 use Rattle.happenings.proofs.Acting.{acts_in}
+use Rattle.happenings.proofs.Allowed.{can_finish, can_land, item_happens, landing_happens}
 use Rattle.happenings.proofs.applying.apply.Goals as goal
 
-pub returns-in-Buildings-clause-acts : goal.returns-in-Buildings-clause-acts
-returns-in-Buildings-clause-acts c = acts_in c.args.rules.now c.args.due c.args.cells.now c.finish_building.new.self c.finish_building.ensures.happens
+pub finish-requires-clause-due : goal.finish-requires-clause-due
+finish-requires-clause-due c = can_finish c.args.cells.now c.args.what c.in-Item.due c.in-Item.is c.requires.can
 
-pub returns-in-Research-clause-acts : goal.returns-in-Research-clause-acts
-returns-in-Research-clause-acts c = acts_in c.args.rules.now c.args.due c.args.cells.now c.finish_research.new.self c.finish_research.ensures.happens
+pub land-requires-clause-land : goal.land-requires-clause-land
+land-requires-clause-land c = can_land c.args.cells.now c.args.what c.in-Landing.fleet c.in-Landing.is c.requires.can
 
-pub returns-in-Yard-clause-acts : goal.returns-in-Yard-clause-acts
-returns-in-Yard-clause-acts c = acts_in c.args.rules.now c.args.due c.args.cells.now c.finish_unit.new.self c.finish_unit.ensures.happens
+pub returns-in-Item-clause-happens : goal.returns-in-Item-clause-happens
+returns-in-Item-clause-happens c = item_happens c.args.rules.now c.args.what c.in-Item.due c.args.cells.now c.finish.new.self c.in-Item.is c.finish.ensures.finishes
+
+pub returns-in-Item-clause-acts : goal.returns-in-Item-clause-acts
+returns-in-Item-clause-acts c = acts_in c.args.rules.now c.args.what c.args.cells.now c.finish.new.self (returns-in-Item-clause-happens c)
+
+pub returns-in-Landing-clause-happens : goal.returns-in-Landing-clause-happens
+returns-in-Landing-clause-happens c = landing_happens c.args.rules.now c.args.what c.in-Landing.fleet c.args.cells.now c.land.new.self c.in-Landing.is c.land.ensures.lands
+
+pub returns-in-Landing-clause-acts : goal.returns-in-Landing-clause-acts
+returns-in-Landing-clause-acts c = acts_in c.args.rules.now c.args.what c.args.cells.now c.land.new.self (returns-in-Landing-clause-happens c)

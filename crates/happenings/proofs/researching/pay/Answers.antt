@@ -18,7 +18,7 @@ returns-clause-pays c =
     let there : IsSome (get place_order old at) = subst IsSome (sym found) refl in
     let price = cost_in c.args.price in
     pays_here price at old (c.get_mut.follows.lender now) cell now found ((c.get_mut.follows.holds now).3 there)
-    (paid_stand price cell now refl c.pay.ensures.fields c.pay.ensures.buildings c.pay.ensures.yard)
+    (paid_stand price cell now refl refl c.pay.ensures.fields c.pay.ensures.buildings c.pay.ensures.yard)
 
 pub returns-clause-lab : goal.returns-clause-lab
 returns-clause-lab c cell is =

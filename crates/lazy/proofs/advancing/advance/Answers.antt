@@ -6,24 +6,24 @@ use Rattle.lazy.proofs.Coursing.{AgreeThen, can-happen, course-advances, course-
 use Rattle.lazy.proofs.Waiting.{happens_same, runs_no_more, waiting_in}
 use Rattle.lazy.proofs.advancing.advance.Goals as goal
 
-pub apply-requires-clause-due : goal.apply-requires-clause-due
-apply-requires-clause-due c =
+pub apply-requires-clause-can : goal.apply-requires-clause-can
+apply-requires-clause-can c =
     let known = c.requires.can in
-    can-happen AgreeThen c.args.rules.now c.args.cells.now c.events.copies c.args.moment c.events.invariant c.in-Some.due c.in-Some.ensures.shown
-    known.0 known.1 known.2 c.in-Some.ensures.due c.requires.in_time
+    can-happen AgreeThen c.args.rules.now c.args.cells.now c.events.copies c.args.moment c.events.invariant c.in-Some.what c.in-Some.ensures.shown
+    known.0 known.1 known.2 c.requires.in_time
 
 pub events-smaller : goal.events-smaller
 events-smaller c =
     let known = c.requires.can in
     let held = c.args.cells.now in
     let old = c.events.copies in
-    let can = can-happen AgreeThen c.args.rules.now held old c.args.moment c.events.invariant c.in-Some.due c.in-Some.ensures.shown known.0 known.1 known.2 c.in-Some.ensures.due c.requires.in_time in
-    let due = c.in-Some.due in
+    let what = c.in-Some.what in
+    let can = can-happen AgreeThen c.args.rules.now held old c.args.moment c.events.invariant what c.in-Some.ensures.shown known.0 known.1 known.2 c.requires.in_time in
     let after = c.apply.new.cells in
     let new = c.run_yards.new.cells in
-    let same = happens_same c.args.rules.now due old after can c.in_ok-apply.ensures.happens in
+    let same = happens_same c.args.rules.now what old after can c.in_ok-apply.ensures.happens in
     let fewer : waiting_in after (names_held held) < waiting_in old (names_held held) =
-    course-falls AgreeThen c.args.rules.now held old c.args.moment c.events.invariant due c.in-Some.ensures.shown after c.in_ok-apply.ensures.acts same known.0 known.1 known.2 in
+    course-falls AgreeThen c.args.rules.now held old c.args.moment c.events.invariant what c.in-Some.ensures.shown known.0 known.1 known.2 after c.in_ok-apply.ensures.acts same in
     let no_more : waiting_in new (names_held held) ≤ waiting_in after (names_held held) =
     runs_no_more c.args.rules.now c.args.moment after new c.in_ok-run_yards.ensures.runs (names_held held) in
     omega (arith, fewer, no_more)
@@ -33,12 +33,12 @@ events-preserved c =
     let known = c.requires.can in
     let held = c.args.cells.now in
     let old = c.events.copies in
-    let due = c.in-Some.due in
+    let what = c.in-Some.what in
     let after = c.apply.new.cells in
     let new = c.run_yards.new.cells in
-    let can = can-happen AgreeThen c.args.rules.now held old c.args.moment c.events.invariant due c.in-Some.ensures.shown known.0 known.1 known.2 c.in-Some.ensures.due c.requires.in_time in
-    let course = course-goes-on AgreeThen c.args.rules.now held old c.args.moment c.events.invariant due c.in-Some.ensures.shown after c.in_ok-apply.ensures.acts c.in_ok-apply.ensures.named
-    (happens_same c.args.rules.now due old after can c.in_ok-apply.ensures.happens) in
+    let can = can-happen AgreeThen c.args.rules.now held old c.args.moment c.events.invariant what c.in-Some.ensures.shown known.0 known.1 known.2 c.requires.in_time in
+    let course = course-goes-on AgreeThen c.args.rules.now held old c.args.moment c.events.invariant what c.in-Some.ensures.shown after c.in_ok-apply.ensures.acts c.in_ok-apply.ensures.named
+    (happens_same c.args.rules.now what old after can c.in_ok-apply.ensures.happens) in
     course-runs c.args.rules.now held after c.args.moment course new c.in_ok-run_yards.ensures.runs c.in_ok-run_yards.ensures.named
 
 pub gained-requires-clause-behind : goal.gained-requires-clause-behind

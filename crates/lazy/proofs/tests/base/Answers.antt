@@ -8,7 +8,7 @@ returns c =
     let account = c.in_ok-account.field-0 in
     let one = c.planet.result in
     let two = c.planet-2.result in
-    sound_two _ account one two c.in_ok-vec.ensures.items c.in_ok-vec-2.ensures.items (c.in_ok-account.ensures.planets ∙ (λ i. sym c.planet.ensures.at i ∷ sym c.planet-2.ensures.at i ∷ [])) c.in_ok-account.ensures.units
+    sound_two _ account one two c.new.ensures c.in_ok-vec.ensures.items c.in_ok-vec-2.ensures.items (c.in_ok-account.ensures.planets ∙ (λ i. sym c.planet.ensures.at i ∷ sym c.planet-2.ensures.at i ∷ [])) c.in_ok-account.ensures.units
     c.in_ok-account.ensures.research
     (player_is one.owner account.player (c.planet.ensures.owner ∙ sym c.in_ok-account.ensures.player)) (player_is two.owner account.player (c.planet-2.ensures.owner ∙ sym c.in_ok-account.ensures.player))
     (rw (c.planet.ensures.at, c.planet-2.ensures.at) c.requires.rises)

@@ -15,28 +15,28 @@ gained-requires-clause-behind c =
 pub events-init : goal.events-init
 events-init c = starts-equal c.args.rules.now c.in_ok-later.later c.in_ok-later.later (c.args.second + 1) (λ cell. refl) c.in_ok-later.ensures.named
 
-pub apply-requires-clause-due : goal.apply-requires-clause-due
-apply-requires-clause-due c =
+pub apply-requires-clause-can : goal.apply-requires-clause-can
+apply-requires-clause-can c =
     let known = c.requires.all in
     event-happens known.0 known.1 c.args.rules.now c.args.second c.args.cells.now known.2 c.in_ok-later.later c.in_ok-later.ensures.gains c.in_ok-later.ensures.shows
-    c.events.later c.in-Some.due c.events.invariant c.in-Some.ensures.shown c.in-Some.ensures.due (omega arith)
+    c.events.later c.in-Some.what c.events.invariant c.in-Some.ensures.shown (omega arith)
 
 pub events-smaller : goal.events-smaller
 events-smaller c =
     let known = c.requires.all in
     let can = event-happens known.0 known.1 c.args.rules.now c.args.second c.args.cells.now known.2 c.in_ok-later.later c.in_ok-later.ensures.gains c.in_ok-later.ensures.shows
-    c.events.later c.in-Some.due c.events.invariant c.in-Some.ensures.shown c.in-Some.ensures.due (omega arith) in
+    c.events.later c.in-Some.what c.events.invariant c.in-Some.ensures.shown (omega arith) in
     event-falls known.0 known.1 c.args.rules.now c.args.second c.args.cells.now known.2 c.in_ok-later.later c.in_ok-later.ensures.gains c.in_ok-later.ensures.shows
-    c.events.later c.in-Some.due c.events.invariant c.in-Some.ensures.shown c.apply.new.cells c.in_ok-apply.ensures.acts
-    (happens_same c.args.rules.now c.in-Some.due c.events.later c.apply.new.cells can c.in_ok-apply.ensures.happens)
+    c.events.later c.in-Some.what c.events.invariant c.in-Some.ensures.shown c.apply.new.cells c.in_ok-apply.ensures.acts
+    (happens_same c.args.rules.now c.in-Some.what c.events.later c.apply.new.cells can c.in_ok-apply.ensures.happens)
 
 pub events-preserved : goal.events-preserved
 events-preserved c =
     let known = c.requires.all in
     let can = event-happens known.0 known.1 c.args.rules.now c.args.second c.args.cells.now known.2 c.in_ok-later.later c.in_ok-later.ensures.gains c.in_ok-later.ensures.shows
-    c.events.later c.in-Some.due c.events.invariant c.in-Some.ensures.shown c.in-Some.ensures.due (omega arith) in
-    course-goes-on AreEqual c.args.rules.now c.in_ok-later.later c.events.later (c.args.second + 1) c.events.invariant c.in-Some.due c.in-Some.ensures.shown c.apply.new.cells
-    c.in_ok-apply.ensures.acts c.in_ok-apply.ensures.named (happens_same c.args.rules.now c.in-Some.due c.events.later c.apply.new.cells can c.in_ok-apply.ensures.happens)
+    c.events.later c.in-Some.what c.events.invariant c.in-Some.ensures.shown (omega arith) in
+    course-goes-on AreEqual c.args.rules.now c.in_ok-later.later c.events.later (c.args.second + 1) c.events.invariant c.in-Some.what c.in-Some.ensures.shown c.apply.new.cells
+    c.in_ok-apply.ensures.acts c.in_ok-apply.ensures.named (happens_same c.args.rules.now c.in-Some.what c.events.later c.apply.new.cells can c.in_ok-apply.ensures.happens)
 
 pub returns : goal.returns
 returns c base history are =

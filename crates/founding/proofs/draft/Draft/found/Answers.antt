@@ -12,7 +12,7 @@ pub returns-clause-universe : goal.returns-clause-universe
 returns-clause-universe c =
     let draft = c.args.self in
     let base = c.base.ensures in
-    listed-universe c.base.result draft.heading draft.players.entries (values_of draft.planets.entries) base.rules base.moment base.number
+    listed-universe c.base.result draft.heading draft.players.entries (values_of draft.planets.entries) base.rules base.moment base.number base.fleets
     (ap (λ v. map account_facts v.items) base.accounts ∙ c.list_accounts-accounts.ensures.items) (ap (λ v. map facts_of v.items) base.planets ∙ c.list_planets-planets.ensures.items)
 
 pub returns-clause-sound : goal.returns-clause-sound
@@ -29,3 +29,4 @@ returns-clause-sound c =
       counts = c.requires.counted;
     })
     (subst (λ (xs : List Planet). AllPairs (λ a b. coord_before a.at b.at ≡ true) xs) (ap (λ v. v.items) (sym base.planets)) c.list_planets-planets.ensures.rise)
+    base.fleets

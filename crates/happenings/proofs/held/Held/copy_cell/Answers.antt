@@ -36,7 +36,7 @@ returns-in_ok-copy-in-Some-planet-clause-copies c =
     let own = subst (λ (o : Option PlanetCell). IfSome o (λ cell. cell.planet.at ≡ at)) found (c.requires.places at) in
     let name = c.in-Planet.is in
     let same = c.in_ok-copy-in-Some-planet.ensures in
-    let stand : planet_stand copy ≡ planet_stand old = sym (same_stand old copy (sym same.0) same.1) in
+    let stand : planet_stand copy ≡ planet_stand old = sym (same_stand old copy (sym same.0) same.1 (sym same.2)) in
     on_ok c.put_planet.result (Puts c.args.other.now c.put_planet.new.self (Planet copy.planet.at) (planet_stand copy)) (Copies held c.args.name c.args.other.now c.put_planet.new.self)
     (λ puts. subst (λ n. Copies held n c.args.other.now c.put_planet.new.self) (sym name)
     (copies_one (held_at held) c.args.other.now c.put_planet.new.self (Planet at) (Planet copy.planet.at) (planet_stand old) (planet_stand copy)

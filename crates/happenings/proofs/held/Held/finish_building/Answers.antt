@@ -5,7 +5,7 @@ use Rattle.happenings.specs.Orders.{place_order}
 use Rattle.happenings.specs.Queues.{home_of}
 use Rattle.happenings.specs.declared.held.Held.{Held}
 use Rattle.happenings.proofs.Acting.{named_planet}
-use Rattle.happenings.proofs.Happening.{building_happens, building_runs, home_behind}
+use Rattle.happenings.proofs.Finished.{building_happens, building_runs, home_behind}
 use Rattle.happenings.proofs.Putting.{place_named, place_puts}
 use Rattle.happenings.proofs.held.Held.finish_building.Goals as goal
 
@@ -25,7 +25,7 @@ returns-clause-happens c =
     let new : Held = record { accounts = old.accounts; planets = c.get_mut.follows.lender now } in
     let there : IsSome (get place_order old.planets c.args.at) = subst IsSome (sym found) refl in
     building_happens c.args.rules.now c.args.due old new c.args.at c.in-Some.cell.now now c.requires.named c.requires.due found
-    (place_puts old new c.args.at now ((c.get_mut.follows.holds now).3 there) refl) c.finish_building.ensures.second c.finish_building.ensures.at c.requires.queue
+    (place_puts old new c.args.at now ((c.get_mut.follows.holds now).3 there) refl) c.finish_building.ensures.second c.finish_building.ensures.at c.finish_building.ensures.fleets c.requires.queue
     c.finish_building.ensures.built c.finish_building.ensures.yard
 
 pub returns-clause-named : goal.returns-clause-named

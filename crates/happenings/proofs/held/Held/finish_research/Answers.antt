@@ -25,7 +25,7 @@ returns-clause-happens c =
     let new : Held = record { accounts = c.get_mut.follows.lender now; planets = c.finish_research.new.planets } in
     let there : IsSome (get player_order old.accounts c.args.player) = subst IsSome (sym found) refl in
     research_happens c.args.rules.now c.args.due old new c.args.player c.in-Some.cell.now now c.requires.named c.requires.due c.requires.queue found
-    ((c.get_mut.follows.holds now).3 there) c.finish_research.ensures.second c.finish_research.ensures.keeps c.finish_research.ensures.done
+    ((c.get_mut.follows.holds now).3 there) c.finish_research.ensures.second c.finish_research.ensures.keeps c.finish_research.ensures.fleets c.finish_research.ensures.done
 
 pub returns-clause-named : goal.returns-clause-named
 returns-clause-named c =

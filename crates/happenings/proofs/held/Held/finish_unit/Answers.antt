@@ -5,7 +5,7 @@ use Rattle.happenings.specs.Orders.{place_order}
 use Rattle.happenings.specs.Queues.{home_of}
 use Rattle.happenings.specs.declared.held.Held.{Held}
 use Rattle.happenings.proofs.Acting.{named_planet}
-use Rattle.happenings.proofs.Happening.{unit_happens, unit_builds, home_behind}
+use Rattle.happenings.proofs.Finished.{unit_happens, unit_builds, home_behind}
 use Rattle.happenings.proofs.Putting.{place_named, place_puts}
 use Rattle.happenings.proofs.held.Held.finish_unit.Goals as goal
 
@@ -25,7 +25,7 @@ returns-clause-happens c =
     let new : Held = record { accounts = old.accounts; planets = c.get_mut.follows.lender now } in
     let there : IsSome (get place_order old.planets c.args.at) = subst IsSome (sym found) refl in
     unit_happens c.args.rules.now c.args.due old new c.args.at c.in-Some.cell.now now c.requires.named c.requires.due found
-    (place_puts old new c.args.at now ((c.get_mut.follows.holds now).3 there) refl) c.finish_unit.ensures.second c.finish_unit.ensures.at c.requires.queue
+    (place_puts old new c.args.at now ((c.get_mut.follows.holds now).3 there) refl) c.finish_unit.ensures.second c.finish_unit.ensures.at c.finish_unit.ensures.fleets c.requires.queue
     c.finish_unit.ensures.built c.finish_unit.ensures.buildings
 
 pub returns-clause-named : goal.returns-clause-named

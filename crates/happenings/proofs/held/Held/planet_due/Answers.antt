@@ -3,7 +3,7 @@ use Rattle.std.proofs.lemmas.List.{append-nil}
 use Rattle.std.proofs.lemmas.Map.Iter.{rest_all, rest_more}
 use Rattle.std.specs.Map.Iter.{deref_pair}
 use Rattle.base_ids.specs.declared.coord.Coord.{Coord}
-use Rattle.happenings.specs.Due.{IsFirstOwed, sooner_of}
+use Rattle.happenings.specs.Due.{IsFirstOwed, key_at, sooner_of}
 use Rattle.happenings.specs.declared.held.PlanetCell.{PlanetCell}
 use Rattle.happenings.proofs.Firsts.{first_more}
 use Rattle.happenings.proofs.Keys.{holds_within}
@@ -22,8 +22,8 @@ planets-preserved c =
     let found = holds_within (planet_there held) before.0 c.next.new.self held.planets.entries entry c.iter-at-items.ensures.found parts in (
       before.0 ++ entry ∷ [],
       append_assoc before.0 (entry ∷ []) c.next.new.self ∙ parts,
-      subst (IsFirstOwed owed (planet_there held) (before.0 ++ entry ∷ [])) (ap (sooner_of c.planets.first) (sym c.owed.ensures) ∙ sym c.sooner-first.ensures)
-          (first_more owed (planet_there held) before.0 entry c.planets.first _ found refl before.2),
+      subst (IsFirstOwed key_at owed (planet_there held) (before.0 ++ entry ∷ [])) (ap (sooner_of key_at c.planets.first) (sym c.owed.ensures) ∙ sym c.sooner-first.ensures)
+          (first_more key_at owed (planet_there held) before.0 entry c.planets.first _ found refl before.2),
     )
 
 pub returns : goal.returns
@@ -32,4 +32,4 @@ returns c =
     let before = c.planets.invariant in
     let none = rest_all deref_pair c.planets.at-iterator c.next.new.self c.next.result c.in-None.is c.next.ensures.steps in
     let all : before.0 ≡ held.planets.entries = sym (append-nil before.0) ∙ ap (λ rest. before.0 ++ rest) (sym none) ∙ before.1 in
-    planets_first held c.args.moment c.planets.first (subst (λ entries. IsFirstOwed (planet_owes c.args.moment) (planet_there held) entries c.planets.first) all before.2)
+    planets_first held c.args.moment c.planets.first (subst (λ entries. IsFirstOwed key_at (planet_owes c.args.moment) (planet_there held) entries c.planets.first) all before.2)

@@ -6,5 +6,5 @@ use Rattle.happenings.proofs.held.PlanetCell.gain_to.Goals as goal
 pub returns-clause-stand : goal.returns-clause-stand
 returns-clause-stand c =
     let old = c.args.self.now in
-    let new : PlanetCell = record { second = c.args.second; planet = c.advance.new.self } in
-    planet_gained_here c.args.rules.now c.args.second (c.args.second - old.second) old new refl refl c.advance.ensures.fields c.advance.ensures.buildings c.advance.ensures.yard
+    let new : PlanetCell = record { second = c.args.second; planet = c.advance.new.self; fleets = old.fleets } in
+    planet_gained_here c.args.rules.now c.args.second (c.args.second - old.second) old new refl refl refl c.advance.ensures.fields c.advance.ensures.buildings c.advance.ensures.yard

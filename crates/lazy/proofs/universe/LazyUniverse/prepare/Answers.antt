@@ -8,7 +8,6 @@ prepare-requires-clause-can c =
     let lazy = c.args.self.now in
     let kept = c.requires.keeps in (
       kept.0.setting,
-      lazy.places,
       lazily_at kept.0 kept.1,
       can-answer-at kept.0 kept.1 lazy c.args.player c.args.req.now c.args.reading c.max-moment.result c.in_ok-cells.cells c.max-moment.ensures c.in_ok-cells.ensures kept.2,
     )
@@ -21,5 +20,5 @@ returns c =
     prepared-at lazy c.args.player c.args.req.now c.args.reading moment cells _ c.requires.keeps c.max-moment.ensures c.in_ok-cells.ensures refl
     (λ base history keeps.
     c.finish-cells.ensures base.setting (lazily_at base history) cells c.args.player c.args.req.now moment
-    (c.in_ok-plan.ensures base.setting lazy.places (lazily_at base history)
+    (c.in_ok-plan.ensures base.setting (lazily_at base history)
     (can-answer-at base history lazy c.args.player c.args.req.now c.args.reading moment cells c.max-moment.ensures c.in_ok-cells.ensures keeps)))

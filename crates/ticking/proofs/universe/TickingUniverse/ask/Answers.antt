@@ -11,7 +11,6 @@ prepare-requires-clause-can c =
     let known = c.requires.can in
     let moment = c.max-moment.result in (
       known.0.setting,
-      c.args.self.now.places,
       ticking_at known.0 known.1 moment,
       can-work known.0 known.1 c.args.self.now c.args.player c.args.req.now c.args.reading moment known.2 c.max-moment.ensures c.in_ok-cells.cells
           (c.in_ok-cells.ensures known.0 known.1 known.2.stands.cells_are),
@@ -32,4 +31,4 @@ returns-clause-ok c = λ base history in_time.
     let can = can-work base history old player req c.args.reading moment in_time c.max-moment.ensures cells are in
     let f = ticking_at base history moment in
     continues base history old player req c.args.reading moment in_time c.max-moment.ensures cells are _ _ _
-    (c.finish-cells.ensures base.setting f cells player req moment (c.in_ok-plan.ensures base.setting old.places f can)) refl refl refl refl refl
+    (c.finish-cells.ensures base.setting f cells player req moment (c.in_ok-plan.ensures base.setting f can)) refl refl refl refl refl

@@ -1,0 +1,64 @@
+-- Lists of fleets and the lists that are seen of them.
+use Rattle.std.proofs.Common.{◌≡◌, ℕ, ◌+◌, ◌<◌, Bool, true, false, cond, ◌==◌, ◌&&◌, List, [], ◌∷◌, length, map, drop, get_or, arith, refl, ap, ◌∙◌, sym}
+use Rattle.std.specs.Prelude.{count_by, nat_le, Some, sum_by, filter}
+use Rattle.std.proofs.lemmas.List.{drop_more}
+use Rattle.std.proofs.lemmas.List.Sums.{sum_by-cons}
+use Rattle.base_ids.specs.Cells.{same_cell, same_player}
+use Rattle.base_ids.specs.declared.cell_id.CellId.TheVariants.{Planet}
+use Rattle.base_ids.specs.declared.coord.Coord.{Coord}
+use Rattle.base_ids.specs.declared.player.Player.{Player}
+use Rattle.fleet_rec.specs.Fleet.{fleet_seen}
+use Rattle.fleet_rec.specs.Fleets.{landings_due}
+use Rattle.fleet_rec.specs.declared.fleet.Fleet.{Fleet}
+use Rattle.tick_model.specs.Events.{lands, second_of}
+use Rattle.tick_model.specs.Flights.{landing}
+use Rattle.tick_model.specs.Lines.{own_fleets}
+use Rattle.tick_model.specs.Sending.{fleet_of}
+use Rattle.tick_model.specs.Views.{ships_of}
+use Rattle.tick_model.specs.Universe.{Fleet as FleetInList}
+
+counted : (own : Bool) (fleet : FleetInList) (fleets : List FleetInList) (n : ℕ) → length fleets ≡ n → length (cond own (fleet ∷ fleets) fleets) ≡ cond own 1 0 + n
+counted true fleet fleets n is = omega arith
+counted false fleet fleets n is = omega arith
+
+-- a player's fleets are as many as those that are seen
+pub own_count : (player : Player) (fleets : List Fleet) → length (own_fleets player (map fleet_seen fleets)) ≡ count_by (λ (fleet : Fleet). fleet.owner.k == player.k) fleets
+own_count player [] = refl
+own_count player (first ∷ later) =
+    counted (same_player first.owner player) (fleet_seen first) (own_fleets player (map fleet_seen later)) _ (own_count player later)
+    ∙ sym (sum_by-cons (λ (fleet : Fleet). cond (fleet.owner.k == player.k) 1 0) first later)
+
+-- what is looked for from a place on
+pub find_more : (player : Player) (number : ℕ) (fleets : List Fleet) (i : ℕ) (fleet : Fleet) → i < length fleets → fleet ≡ get_or fleets i fleet
+    → fleet_of player number (map fleet_seen (drop i fleets))
+    ≡ cond (fleet.number == number && same_player fleet.owner player) (Some (fleet_seen fleet)) (fleet_of player number (map fleet_seen (drop (i + 1) fleets)))
+find_more player number fleets i fleet here is =
+    ap (λ (xs : List Fleet). fleet_of player number (map fleet_seen xs)) (drop_more fleets i fleet here ∙ ap (λ (x : Fleet). x ∷ drop (i + 1) fleets) (sym is))
+
+-- the ships of those from a place on
+pub ships_more : (player : Player) (fleets : List Fleet) (i : ℕ) (fleet : Fleet) → i < length fleets → fleet ≡ get_or fleets i fleet
+    → sum_by (ships_of player) (map fleet_seen (drop i fleets)) ≡ ships_of player (fleet_seen fleet) + sum_by (ships_of player) (map fleet_seen (drop (i + 1) fleets))
+ships_more player fleets i fleet here is =
+    ap (λ (xs : List Fleet). sum_by (ships_of player) (map fleet_seen xs)) (drop_more fleets i fleet here ∙ ap (λ (x : Fleet). x ∷ drop (i + 1) fleets) (sym is))
+    ∙ sum_by-cons (ships_of player) (fleet_seen fleet) (map fleet_seen (drop (i + 1) fleets))
+
+due_cases : (lands_here due : Bool) (first : FleetInList) (later : List FleetInList) (second : ℕ) → nat_le first.second second ≡ due
+    → filter (λ event. nat_le (second_of event) second) (map lands (cond lands_here (first ∷ later) later))
+    ≡ cond (lands_here && due) (lands first ∷ filter (λ event. nat_le (second_of event) second) (map lands later)) (filter (λ event. nat_le (second_of event) second) (map lands later))
+due_cases false due first later second is = refl
+due_cases true due first later second is = ap (λ (b : Bool). cond b (lands first ∷ filter (λ event. nat_le (second_of event) second) (map lands later)) (filter (λ event. nat_le (second_of event) second) (map lands later))) is
+
+due_first : (at : Coord) (second : ℕ) (first : FleetInList) (later : List FleetInList)
+    → landings_due at second (first ∷ later)
+    ≡ cond (same_cell (Planet (landing first)) (Planet at) && nat_le first.second second) (lands first ∷ landings_due at second later) (landings_due at second later)
+due_first at second first later =
+    due_cases (same_cell (Planet (landing first)) (Planet at)) (nat_le first.second second) first (filter (λ (fleet : FleetInList). same_cell (Planet (landing fleet)) (Planet at)) later) second refl
+
+-- the landings that are due from a place on
+pub due_more : (at : Coord) (second : ℕ) (fleets : List Fleet) (i : ℕ) (fleet : Fleet) → i < length fleets → fleet ≡ get_or fleets i fleet
+    → landings_due at second (map fleet_seen (drop i fleets))
+    ≡ cond (same_cell (Planet (landing (fleet_seen fleet))) (Planet at) && nat_le fleet.second second) (lands (fleet_seen fleet) ∷ landings_due at second (map fleet_seen (drop (i + 1) fleets)))
+    (landings_due at second (map fleet_seen (drop (i + 1) fleets)))
+due_more at second fleets i fleet here is =
+    ap (λ (xs : List Fleet). landings_due at second (map fleet_seen xs)) (drop_more fleets i fleet here ∙ ap (λ (x : Fleet). x ∷ drop (i + 1) fleets) (sym is))
+    ∙ due_first at second (fleet_seen fleet) (map fleet_seen (drop (i + 1) fleets))
