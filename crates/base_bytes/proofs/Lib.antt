@@ -5,3 +5,4 @@ pub mod Once
 pub mod Flying
 pub mod Seen
 pub mod Bases
+pub mod Limited

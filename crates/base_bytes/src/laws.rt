@@ -9,12 +9,13 @@ ghost use Rattle.base_ids.specs.declared.cell_id.CellId.TheVariants.{Account as 
 ghost use Rattle.laziness.specs.World.{IsBase};
 ghost use Rattle.planet_cell.specs.declared.planet.Planet.{Planet};
 ghost use Rattle.tick_model.specs.Game.{game};
+ghost use Rattle.tick_model.specs.Limits.{KeepsLimits};
 ghost use Rattle.tick_model.specs.Views.{nothing_seen, view};
 ghost use Rattle.tick_model.specs.World.{base_of};
 
 /// A sound base stands for a universe that is a base of histories. Of each of its accounts and planets the universe shows what
-/// the base has of it, and it shows nothing of any other cell. The fleets that it shows of a cell rise strictly by number. It does
-/// nothing: the laws are its contract.
+/// the base has of it, and it shows nothing of any other cell. The fleets that it shows of a cell rise strictly by number, and it
+/// keeps the limits on queues and units. It does nothing: the laws are its contract.
 pub fn stands_for_a_universe()
     ensures base { (base : Base) → IsSound base → IsBase (game (setting_of base)) (base_of (universe_of base)) }
     ensures accounts { (base : Base) (account : Account) → IsSound base → Contains base.accounts.items account
@@ -25,4 +26,5 @@ pub fn stands_for_a_universe()
         → view (setting_of base).cells (universe_of base).state cell ≡ nothing_seen }
     ensures fleets { (base : Base) (cell : CellId) → IsSound base
         → AllPairs (λ first second. first.number < second.number) (view (setting_of base).cells (universe_of base).state cell).fleets }
+    ensures limits { (base : Base) → IsSound base → KeepsLimits (setting_of base) (universe_of base).state }
 {}

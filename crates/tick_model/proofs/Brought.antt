@@ -1,5 +1,5 @@
 -- What a cell brings.
-use Rattle.std.proofs.Common.{◌≡◌, ℕ, inl, inr, Bool, true, cond, ◌&&◌, ◌||◌, Contains, ap, ◌∙◌, sym, subst}
+use Rattle.std.proofs.Common.{◌≡◌, ℕ, inl, inr, true, ◌&&◌, ◌||◌, Contains, ap, ◌∙◌, subst}
 use Rattle.base_ids.specs.Cells.{same_cell}
 use Rattle.base_ids.specs.declared.cell_id.CellId.{CellId}
 use Rattle.base_ids.specs.declared.cell_id.CellId.TheVariants.{Account, Planet}

@@ -5,7 +5,7 @@ use Rattle.base_ids.specs.declared.cell_id.CellId.{CellId}
 use Rattle.laziness.proofs.Bringing.{test, never}
 use Rattle.tick_model.specs.Buildings.{done}
 use Rattle.tick_model.specs.Changes.{new_queue, owns, put_own, write}
-use Rattle.tick_model.specs.Events.{Event, item_due, Owes, effect, event_change, footprint, home}
+use Rattle.tick_model.specs.Events.{Event, item_due, effect, event_change, footprint}
 use Rattle.tick_model.specs.Researches.{researched}
 use Rattle.tick_model.specs.Rules.{IsBatch, IsIn, KeepsRules}
 use Rattle.tick_model.specs.Universe.{Own, QueueClass, Buildings, Researches, Yard, Item, Setting, State, same_class}
@@ -19,7 +19,7 @@ use Rattle.tick_model.proofs.Lists.{cell-is, cell-itself}
 use Rattle.tick_model.proofs.Owns.{IsAlike, Stays, alike-holding, alike-itself, alike-stays, owner_of, put-alike, stays-itself, stays-owner}
 use Rattle.tick_model.proofs.Queues.{queue-new, queue-other, queued, stands-there}
 use Rattle.tick_model.proofs.Staying.{AllStay}
-use Rattle.tick_model.proofs.Writes.{IsWithin, inside, outside, owns_after, shown-alike, shown-own, with_queue, within-queue, write-queue}
+use Rattle.tick_model.proofs.Writes.{IsWithin, owns_after, shown-own, with_queue, within-queue, write-queue}
 
 -- what cells have of their own, and the queue that was due
 abbrev pub came_own : Rules → QueueClass → Item → List Item → (CellId → View) → CellId → Own

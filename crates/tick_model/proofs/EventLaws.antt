@@ -14,7 +14,7 @@ use Rattle.request_text.specs.declared.entry.Entry.{Entry}
 use Rattle.laziness.proofs.Bringing.{never, test}
 use Rattle.laziness.specs.Laws.{Agree, ComesFrom, IsClosed, IsNext, NoneDue, Stands}
 use Rattle.tick_model.specs.Events.{Event, item_due, lands, Owes, effect, footprint, home as home_of, is_payer, key_of, next_event, second_of}
-use Rattle.tick_model.specs.Game.{brings, events_left, fleets_bring, game, landings_left, own_brings, research_brings}
+use Rattle.tick_model.specs.Game.{brings, events_left, game, landings_left, own_brings, research_brings}
 use Rattle.tick_model.specs.Changes.{owns}
 use Rattle.tick_model.specs.Flights.{back_at, landing, turned, turns}
 use Rattle.tick_model.specs.Production.{advance, gains}
@@ -33,7 +33,7 @@ use Rattle.tick_model.proofs.Follows.{Follows, follows-rest}
 use Rattle.tick_model.proofs.Gains.{advance-asked, advance-keeps, gains-bring, gains-owe, gains-owed, more-gained, none-gained, view-advanced}
 use Rattle.tick_model.proofs.Keys.{key-later, key-sooner}
 use Rattle.tick_model.proofs.Landings.{after_landing, back-out, came_landed, flies-in, landing-belongs, landing-is, landing-stays, turns-belongs}
-use Rattle.tick_model.proofs.Lists.{and-from, and-is, any-in, cell-from, cell-is, class-is, fails, fleet-one, from-changed, from-filter, in-any, in-changed, in-filter, number-is, or-first, or-is, or-second}
+use Rattle.tick_model.proofs.Lists.{and-from, and-is, any-in, cell-from, cell-is, class-is, fails, fleet-one, from-changed, from-filter, in-any, in-filter, or-first, or-is, or-second}
 use Rattle.tick_model.proofs.Nexts.{found-next, found-none, le-is}
 use Rattle.tick_model.proofs.Owns.{brings-same, stays-owner}
 use Rattle.tick_model.proofs.Writes.{became_at}

@@ -1,11 +1,10 @@
 -- The fleets of a player among all.
-use Rattle.std.proofs.Common.{◌≡◌, ℕ, inl, inr, Bool, true, false, cond, eqb, ◌||◌, ◌&&◌, List, [], ◌∷◌, Option, None, Some, filter, refl, ap, ◌∙◌, sym, subst}
+use Rattle.std.proofs.Common.{◌≡◌, ℕ, inl, inr, Bool, true, false, cond, eqb, ◌&&◌, List, [], ◌∷◌, Option, None, Some, filter, refl, ap, ◌∙◌, sym}
 use Rattle.std.specs.List.{list_any}
-use Rattle.base_ids.specs.Cells.{same_cell, same_player}
+use Rattle.base_ids.specs.Cells.{same_player}
 use Rattle.base_ids.specs.declared.player.Player.{Player}
 use Rattle.base_ids.specs.declared.cell_id.CellId.{CellId}
-use Rattle.base_ids.specs.declared.cell_id.CellId.TheVariants.{Account, Planet}
-use Rattle.laziness.proofs.Bringing.{never, test}
+use Rattle.laziness.proofs.Bringing.{never}
 use Rattle.tick_model.specs.Rules.{AreApart, IsIn, same_flight}
 use Rattle.tick_model.specs.Sending.{belongs_out, fleet_of}
 use Rattle.tick_model.specs.Universe.{Fleet}

@@ -1,5 +1,5 @@
 -- What a fleet that lands does to a state.
-use Rattle.std.proofs.Common.{◌≡◌, ℕ, ◌+◌, ◌-◌, ◌<◌, ◌⊎◌, inl, inr, Bool, true, false, cond, eqb, ◌||◌, ◌&&◌, List, [], ◌∷◌, Option, None, Some, length, filter, sum_by, if◌then◌else◌, arith, refl, ap, ◌∙◌, sym, subst}
+use Rattle.std.proofs.Common.{◌≡◌, ℕ, ◌+◌, ◌⊎◌, inl, inr, Bool, true, false, cond, eqb, ◌||◌, ◌&&◌, List, [], ◌∷◌, Option, None, Some, length, sum_by, arith, refl, ap, ◌∙◌, sym, subst}
 use Rattle.std.proofs.lemmas.List.Sums.{sum_by-cons}
 use Rattle.std.specs.List.{filter_map, list_any, cons_option}
 use Rattle.base_ids.specs.Cells.{same_cell}
@@ -11,7 +11,7 @@ use Rattle.catalog.specs.declared.mission.Mission.TheVariants.{Transport, Deploy
 use Rattle.laziness.proofs.Bringing.{test, never}
 use Rattle.reply_text.specs.declared.units.Units.{Units}
 use Rattle.tick_model.specs.Changes.{owns, put_own}
-use Rattle.tick_model.specs.Events.{lands, Owes, effect, event_change, footprint, home}
+use Rattle.tick_model.specs.Events.{lands, effect, event_change, footprint}
 use Rattle.tick_model.specs.Flights.{Landed, arrived, back_at, joined_by, landed, landing, moored, supplied, turned, turns}
 use Rattle.tick_model.specs.Rules.{AreApart, IsFlying, IsIn, KeepsRules, same_flight}
 use Rattle.tick_model.specs.Universe.{Own, of_nothing, of_account, of_planet, PlanetFields, Yard, Fleet, Setting, State}
@@ -208,7 +208,7 @@ others-stay number became (fleet ∷ fleets) other =
     ap (λ b. cons_option (cond b (became fleet) (Some fleet)) (filter_map (became_at number became) fleets)) (other fleet (inl refl))
     ∙ ap (λ rest. fleet ∷ rest) (others-stay number became fleets (λ f is. other f (inr is)))
 
-cons-weight : (w : Fleet → ℕ) (new : Option Fleet) (rest : List Fleet) → sum_by w (cons_option new rest) ≡ weight w new + sum_by w rest
+pub cons-weight : (w : Fleet → ℕ) (new : Option Fleet) (rest : List Fleet) → sum_by w (cons_option new rest) ≡ weight w new + sum_by w rest
 cons-weight w None rest = let zero : sum_by w rest ≡ 0 + sum_by w rest = omega arith in zero
 cons-weight w (Some fleet) rest = sum_by-cons w fleet rest
 

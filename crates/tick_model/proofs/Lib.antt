@@ -23,9 +23,12 @@ pub mod Outcomes
 pub mod Written
 pub mod Arising
 pub mod RulesKept
+pub mod LimitsKept
+pub mod LimitsAsked
 pub mod Requesting
 pub mod GameLaws
 pub mod Worlds
 pub mod Talks
 pub mod Once
 pub mod Keeping
+pub mod LimitsWorlds

@@ -1,5 +1,7 @@
 -- What comes of a request: nothing is changed, or a planet's own fields are, or an item joins a queue.
-use Rattle.std.proofs.Common.{◌≡◌, ℕ, zero, suc, ◌+◌, ◌*◌, ◌/◌, ◌<◌, ◌≤◌, List, [], ◌∷◌, ◌++◌, Bool, true, false, not, cond, eqb, ◌&&◌, Option, None, Some, length, arith, refl, ap, ◌∙◌, sym, subst}
+use Rattle.std.proofs.Common.{◌≡◌, ℕ, zero, suc, ◌+◌, ◌-◌, ◌*◌, ◌/◌, ◌<◌, ◌≤◌, List, [], ◌∷◌, ◌++◌, Bool, true, false, not, cond, eqb, Option, None, Some, length, nat_le, sum, arith, refl, ap, ◌∙◌, sym, subst}
+use Rattle.std.proofs.lemmas.Bool.Decides.{nat_tests}
+use Rattle.std.proofs.lemmas.List.Sums.{sum_by-cons}
 use Rattle.base_ids.specs.Cells.{same_cell, same_player}
 use Rattle.base_ids.specs.declared.fleet_number.FleetNumber.{FleetNumber}
 use Rattle.base_num.specs.Root.{root}
@@ -13,7 +15,7 @@ use Rattle.catalog.specs.declared.classes.TheConstants.{UNIT_KINDS}
 use Rattle.catalog.specs.declared.kind.Kind.{Kind}
 use Rattle.catalog.specs.declared.mission.Mission.{Mission}
 use Rattle.catalog.specs.declared.mission.Mission.TheVariants.{Transport, Deploy, Harvest, Attack}
-use Rattle.catalog.specs.declared.ships.TheConstants.{SHIPS}
+use Rattle.catalog.specs.declared.ships.TheConstants.{SHIPS, UNITS}
 use Rattle.flight.specs.Distances.{distance_of}
 use Rattle.flight.specs.Speeds.{fleet_speed}
 use Rattle.flight.specs.Times.{flight_seconds, pace, way}
@@ -21,12 +23,12 @@ use Rattle.laziness.proofs.Bringing.{never}
 use Rattle.reply_text.specs.OrderLines.{back_line}
 use Rattle.request_text.specs.declared.request.Request.{Request}
 use Rattle.request_text.specs.declared.request.Request.TheVariants.{Planet as PlanetOf, Account as AccountOf, Fleets, System as SystemOf, Build, Research, Yard as YardOf, Set, Send, Join, Recall}
-use Rattle.tick_model.specs.declared.codes.TheConstants.{BAD_MISSION, NO_SHIPS, NOT_BUILT, NOT_OUTBOUND, NOT_YOURS}
+use Rattle.tick_model.specs.declared.codes.TheConstants.{BAD_MISSION, CEILING, LEVEL_CAP, MOST_QUEUED, NO_SHIPS, NOT_BUILT, NOT_OUTBOUND, NOT_YOURS, POOR, QUEUE_FULL, REQUIRES}
 use Rattle.tick_model.specs.Buildings.{pays, started}
 use Rattle.tick_model.specs.Changes.{Change, new_fleet, new_owns, new_queue, no_change, owns, sends_fleet}
 use Rattle.tick_model.specs.Flights.{left_by, recalled_at, turned}
 use Rattle.tick_model.specs.Lines.{own_fleets}
-use Rattle.tick_model.specs.Refusals.{build_refusal, research_refusal, yard_refusal}
+use Rattle.tick_model.specs.Refusals.{build_refusal, is_full, research_refusal, yard_refusal}
 use Rattle.tick_model.specs.Requests.{Sight, Outcome, refused, granted, on_own, on_account, queue_seen, with_planet, ordered, queues, queues_research, queues_batch, builds, researches, yards, own_seen, outcome, shows, sets, tells, tells_fleets, tells_system, errand_of, is_flown, owner_there, recalls, recalls_own, sends, sends_on}
 use Rattle.tick_model.specs.Sending.{Errand, can_go, departed, fleet_of, has_ships, launched, seconds_to, send_refusal, suits}
 use Rattle.tick_model.specs.Researches.{pays_research, started_research}
@@ -60,6 +62,9 @@ pub record IsOrdered (sight : Sight) (player : Player) (item : Item) : Type 0 wh
   -- if none is before it, it runs, and comes due after the request's moment
   pub runs : queue_seen sight item.cell item.class ≡ [] → sight.moment < item.second
   pub paced : queue_seen sight item.cell item.class ≡ [] → item.class ≡ Yard → 1 ≤ item.unit_seconds
+  -- the queue has room for it, and the caller may have its units
+  pub room : length (queue_seen sight item.cell item.class) < MOST_QUEUED
+  pub few : item.class ≡ Yard → (sight.seen (Account player)).units + item.left ≤ UNITS
 
 -- A fleet that a request sends from a planet of the caller, which is as before but for its stocks and units. It bears the request's
 -- number, and comes due after the request's moment.
@@ -70,6 +75,8 @@ pub record IsSent (sight : Sight) (player : Player) (own : CellId → Own) (flee
   pub is_own : IsOwn sight player fleet.origin account planet
   pub stays : Stays (of_planet planet) (of_planet departed)
   pub own_is : own ≡ with_planet sight fleet.origin departed
+  -- its ships are gone from there
+  pub gone : sum departed.units + sum fleet.ships ≡ sum planet.units
   pub to : PlanetFields
   pub reaches : owns sight.seen (Planet fleet.target) ≡ of_planet to
   pub is_theirs : to.owner ≡ fleet.target_owner
@@ -107,44 +114,47 @@ seen-alike sight x = alike-itself (owns sight.seen x)
 some-before : {A : Type 0} (first : Item) (later items : List Item) → first ∷ later ≡ items → items ≡ [] → A
 some-before first later items is none = absurd (let both : first ∷ later ≡ [] = is ∙ none in cc)
 
+room-seen : (items seen : List Item) → items ≡ seen → length items < MOST_QUEUED → length seen < MOST_QUEUED
+room-seen items seen is room = subst (λ queue. length queue < MOST_QUEUED) is room
+
 queues-change : (sight : Sight) (player : Player) (req : Request) (at : Coord) (kind : Kind) (account : AccountFields) (planet : PlanetFields) (items : List Item) → IsOwn sight player at account planet
-    → items ≡ queue_seen sight (Planet at) Buildings → Changes sight player req (queues sight at kind planet items).change
-queues-change sight player req at kind account planet [] own is =
+    → items ≡ queue_seen sight (Planet at) Buildings → length items < MOST_QUEUED → Changes sight player req (queues sight at kind planet items).change
+queues-change sight player req at kind account planet [] own is room =
     let item = started sight.rules.speed sight.moment planet (ordered sight (Planet at) Buildings at kind 0) in
     let least = duration-least sight.rules.speed planet kind in
     joined (with_planet sight at (pays planet kind)) item (planet-alike sight at planet (pays planet kind) own.there (refl, refl))
-    (record { account = account; planet = planet; is_own = own; number = refl; cell = refl; batch = tt; runs = λ none. omega (arith, least); paced = λ none yard. absurd cc })
+    (record { account = account; planet = planet; is_own = own; number = refl; cell = refl; batch = tt; runs = λ none. omega (arith, least); paced = λ none yard. absurd cc; room = room-seen _ _ is room; few = λ yard. absurd cc })
     (ap (λ items. new_queue (with_planet sight at (pays planet kind)) (Planet at) Buildings (items ++ item ∷ [])) is)
-queues-change sight player req at kind account planet (first ∷ later) own is =
+queues-change sight player req at kind account planet (first ∷ later) own is room =
     let item = ordered sight (Planet at) Buildings at kind 0 in
     joined (owns sight.seen) item (seen-alike sight)
-    (record { account = account; planet = planet; is_own = own; number = refl; cell = refl; batch = tt; runs = λ none. some-before first later _ is none; paced = λ none yard. absurd cc })
+    (record { account = account; planet = planet; is_own = own; number = refl; cell = refl; batch = tt; runs = λ none. some-before first later _ is none; paced = λ none yard. absurd cc; room = room-seen _ _ is room; few = λ yard. absurd cc })
     (ap (λ items. new_queue (owns sight.seen) (Planet at) Buildings (items ++ item ∷ [])) is)
 
 research-change : (sight : Sight) (player : Player) (req : Request) (at : Coord) (kind : Kind) (account : AccountFields) (planet : PlanetFields) (items : List Item) → IsOwn sight player at account planet
-    → items ≡ queue_seen sight (Account player) Researches → Changes sight player req (queues_research sight player at kind account planet items).change
-research-change sight player req at kind account planet [] own is =
+    → items ≡ queue_seen sight (Account player) Researches → length items < MOST_QUEUED → Changes sight player req (queues_research sight player at kind account planet items).change
+research-change sight player req at kind account planet [] own is room =
     let item = started_research sight.rules.speed sight.moment account planet (ordered sight (Account player) Researches at kind 0) in
     let least = research-least sight.rules.speed account planet kind in
     joined (with_planet sight at (pays_research account planet kind)) item (planet-alike sight at planet (pays_research account planet kind) own.there (refl, refl))
-    (record { account = account; planet = planet; is_own = own; number = refl; cell = refl; batch = tt; runs = λ none. omega (arith, least); paced = λ none yard. absurd cc })
+    (record { account = account; planet = planet; is_own = own; number = refl; cell = refl; batch = tt; runs = λ none. omega (arith, least); paced = λ none yard. absurd cc; room = room-seen _ _ is room; few = λ yard. absurd cc })
     (ap (λ items. new_queue (with_planet sight at (pays_research account planet kind)) (Account player) Researches (items ++ item ∷ [])) is)
-research-change sight player req at kind account planet (first ∷ later) own is =
+research-change sight player req at kind account planet (first ∷ later) own is room =
     let item = ordered sight (Account player) Researches at kind 0 in
     joined (owns sight.seen) item (seen-alike sight)
-    (record { account = account; planet = planet; is_own = own; number = refl; cell = refl; batch = tt; runs = λ none. some-before first later _ is none; paced = λ none yard. absurd cc })
+    (record { account = account; planet = planet; is_own = own; number = refl; cell = refl; batch = tt; runs = λ none. some-before first later _ is none; paced = λ none yard. absurd cc; room = room-seen _ _ is room; few = λ yard. absurd cc })
     (ap (λ items. new_queue (owns sight.seen) (Account player) Researches (items ++ item ∷ [])) is)
 
 batch-change : (sight : Sight) (player : Player) (req : Request) (at : Coord) (kind : Kind) (count : ℕ) (account : AccountFields) (planet : PlanetFields) (items : List Item) → IsOwn sight player at account planet
-    → 1 ≤ count → place_in UNIT_KINDS kind < length UNIT_KINDS → items ≡ queue_seen sight (Planet at) Yard → Changes sight player req (queues_batch sight at kind count planet items).change
-batch-change sight player req at kind count account planet [] own some known is =
+    → 1 ≤ count → place_in UNIT_KINDS kind < length UNIT_KINDS → items ≡ queue_seen sight (Planet at) Yard → length items < MOST_QUEUED → (sight.seen (Account player)).units + count ≤ UNITS → Changes sight player req (queues_batch sight at kind count planet items).change
+batch-change sight player req at kind count account planet [] own some known is room few =
     let new = pays_batch planet kind count in
     let item = begun sight.rules.speed sight.moment planet (ordered sight (Planet at) Yard at kind count) in
     let least = unit-least sight.rules.speed planet kind in
     joined (with_planet sight at new) item (planet-alike sight at planet new own.there (refl, refl))
-    (record { account = account; planet = planet; is_own = own; number = refl; cell = refl; batch = (some, known); runs = λ none. omega (arith, least); paced = λ none yard. least })
+    (record { account = account; planet = planet; is_own = own; number = refl; cell = refl; batch = (some, known); runs = λ none. omega (arith, least); paced = λ none yard. least; room = room-seen _ _ is room; few = λ yard. few })
     (ap (λ items. new_queue (with_planet sight at new) (Planet at) Yard (items ++ item ∷ [])) is)
-batch-change sight player req at kind count account planet (first ∷ later) own some known is =
+batch-change sight player req at kind count account planet (first ∷ later) own some known is room few =
     let new = pays_batch planet kind count in
     let item = ordered sight (Planet at) Yard at kind count in
     joined (with_planet sight at new) item (planet-alike sight at planet new own.there (refl, refl))
@@ -157,13 +167,10 @@ batch-change sight player req at kind count account planet (first ∷ later) own
       batch = (some, known);
       runs = λ none. some-before first later _ is none;
       paced = λ none yard. some-before first later _ is none;
+      room = room-seen _ _ is room;
+      few = λ yard. few;
     })
     (ap (λ items. new_queue (with_planet sight at new) (Planet at) Yard (items ++ item ∷ [])) is)
-
--- what is refused with a code above 0 changes nothing then
-unless-change : (sight : Sight) (player : Player) (req : Request) (code : ℕ) (grant : Outcome) → Changes sight player req grant.change → Changes sight player req (cond (eqb code 0) grant (refused sight code)).change
-unless-change sight player req code grant granted =
-    elim (eqb code 0) as (λ b. Changes sight player req (cond b grant (refused sight code)).change) [ true ↦ granted | false ↦ nothing refl ]
 
 own-change : (sight : Sight) (player : Player) (req : Request) (at : Coord) (caller there : Own) (grant : AccountFields → PlanetFields → Outcome) → owns sight.seen (Account player) ≡ caller → owns sight.seen (Planet at) ≡ there
     → ((account : AccountFields) (planet : PlanetFields) → IsOwn sight player at account planet → Changes sight player req (grant account planet).change)
@@ -202,6 +209,34 @@ unless-refused sight player req code grant granted =
 passed : (code rest : ℕ) (holds : Bool) → 1 ≤ code → cond holds code rest ≡ 0 → (holds ≡ false) × (rest ≡ 0)
 passed code rest true some none = absurd (omega (arith, some, none))
 passed code rest false some none = (refl, none)
+
+-- what isn't refused finds room in its queue
+has-room : (items : List Item) → is_full items ≡ false → length items < MOST_QUEUED
+has-room items is = grind (arith, nat_tests)
+
+build-room : (account : AccountFields) (planet : PlanetFields) (items : List Item) (kind : Kind) → build_refusal account planet items kind ≡ 0 → length items < MOST_QUEUED
+unfolding build_refusal
+build-room account planet items kind none = has-room items (passed QUEUE_FULL _ (is_full items) (omega arith) none).0
+
+research-room : (speed : ℕ) (account : AccountFields) (planet : PlanetFields) (items : List Item) (kind : Kind) → research_refusal speed account planet items kind ≡ 0 → length items < MOST_QUEUED
+unfolding research_refusal
+research-room speed account planet items kind none = has-room items (passed QUEUE_FULL _ (is_full items) (omega arith) none).0
+
+-- and a batch keeps the caller's units within the ceiling
+below-ceiling : (units : ℕ) → nat_le (UNITS + 1) units ≡ false → units ≤ UNITS
+below-ceiling units is = grind (arith, nat_tests)
+
+yard-room : (account : AccountFields) (units : ℕ) (planet : PlanetFields) (batches : List Item) (kind : Kind) (count : ℕ) → yard_refusal account units planet batches kind count ≡ 0
+    → (length batches < MOST_QUEUED) × (units + count ≤ UNITS)
+unfolding yard_refusal
+yard-room account units planet batches kind count none =
+    let some : (1 ≤ LEVEL_CAP) × (1 ≤ REQUIRES) × (1 ≤ POOR) × (1 ≤ CEILING) = (omega arith, omega arith, omega arith, omega arith) in
+    let full = passed QUEUE_FULL _ (is_full batches) (omega arith) none in
+    let cap = passed LEVEL_CAP _ _ some.0 full.1 in
+    let met = passed REQUIRES _ _ some.1 cap.1 in
+    let paid = passed POOR _ _ some.2 met.1 in
+    let ceiling = passed CEILING _ (nat_le (UNITS + 1) (units + count)) some.3 paid.1 in
+    (has-room batches full.0, below-ceiling (units + count) ceiling.0)
 
 -- a mission that isn't refused suits the target
 pub send-goes : (player : Player) (account : AccountFields) (fleets : ℕ) (planet : PlanetFields) (target : Own) (errand : Errand) → send_refusal player account fleets planet target errand ≡ 0
@@ -246,6 +281,30 @@ pub departed-stays : (account : AccountFields) (planet : PlanetFields) (errand :
 unfolding departed
 departed-stays account planet errand = (refl, left-kinds planet.units errand.ships)
 
+-- what leaves a planet is gone from there
+sum-cons : (x : ℕ) (xs : List ℕ) → sum (x ∷ xs) ≡ x + sum xs
+sum-cons x xs = sum_by-cons (λ (n : ℕ). n) x xs
+
+ship-fits : (ship count : ℕ) → nat_le ship count ≡ true → ship ≤ count
+ship-fits ship count is = grind (arith, nat_tests)
+
+pub left-sum : (counts ships : List ℕ) → has_ships counts ships ≡ true → sum (left_by counts ships) + sum ships ≡ sum counts
+left-sum [] [] has = refl
+left-sum (count ∷ counts) [] has = let same : sum (count ∷ counts) + 0 ≡ sum (count ∷ counts) = omega arith in same
+left-sum [] (ship ∷ ships) has = never false has refl
+left-sum (count ∷ counts) (ship ∷ ships) has =
+    let both = and-is (nat_le ship count) (has_ships counts ships) has in
+    let fits = ship-fits ship count both.0 in
+    let rest = left-sum counts ships both.1 in
+    let new = sum-cons (count - ship) (left_by counts ships) in
+    let old = sum-cons count counts in
+    let sent = sum-cons ship ships in
+    omega (arith, fits, rest, new, old, sent)
+
+departed-sum : (account : AccountFields) (planet : PlanetFields) (errand : Errand) → has_ships planet.units errand.ships ≡ true → sum (departed account planet errand).units + sum errand.ships ≡ sum planet.units
+unfolding departed
+departed-sum account planet errand has = left-sum planet.units errand.ships has
+
 -- a flight takes a second or more
 some-part : (n d q : ℕ) → 1 ≤ n → n ≤ q * d → 1 ≤ q
 some-part n d zero some reaches = absurd (omega (arith, some, reaches))
@@ -266,8 +325,8 @@ owner-there player (of_account account) to is = absurd cc
 
 -- a fleet that isn't refused is sent
 sends-change : (sight : Sight) (player : Player) (req : Request) (errand : Errand) (account : AccountFields) (planet : PlanetFields) → length errand.ships ≡ length SHIPS
-    → IsOwn sight player errand.from account planet → can_go player errand (own_seen sight (Planet errand.to)) ≡ true → Changes sight player req (sends sight player errand account planet).change
-sends-change sight player req errand account planet kinds own goes =
+    → IsOwn sight player errand.from account planet → has_ships planet.units errand.ships ≡ true → can_go player errand (own_seen sight (Planet errand.to)) ≡ true → Changes sight player req (sends sight player errand account planet).change
+sends-change sight player req errand account planet kinds own has goes =
     let target = own_seen sight (Planet errand.to) in
     let to = goes-to player errand target goes in
     let theirs = owner-there player target to.to to.reaches in
@@ -280,6 +339,7 @@ sends-change sight player req errand account planet kinds own goes =
       is_own = own;
       stays = departed-stays account planet errand;
       own_is = refl;
+      gone = departed-sum account planet errand has;
       to = to.to;
       reaches = to.reaches;
       is_theirs = theirs;
@@ -313,17 +373,20 @@ outcome-changes sight player AccountOf = account-change sight player AccountOf (
 outcome-changes sight player (Build at building) =
     at-own sight player (Build at building) at (builds sight at building.kind) (λ account planet own.
     let items = queue_seen sight (Planet at) Buildings in
-    unless-change sight player (Build at building) (build_refusal account planet items building.kind) (queues sight at building.kind planet items) (queues-change sight player (Build at building) at building.kind account planet items own refl))
+    unless-refused sight player (Build at building) (build_refusal account planet items building.kind) (queues sight at building.kind planet items) (λ none.
+    queues-change sight player (Build at building) at building.kind account planet items own refl (build-room account planet items building.kind none)))
 outcome-changes sight player (Research at technology) =
     at-own sight player (Research at technology) at (researches sight player at technology.kind) (λ account planet own.
     let items = queue_seen sight (Account player) Researches in
-    unless-change sight player (Research at technology) (research_refusal sight.rules.speed account planet items technology.kind) (queues_research sight player at technology.kind account planet items)
-    (research-change sight player (Research at technology) at technology.kind account planet items own refl))
+    unless-refused sight player (Research at technology) (research_refusal sight.rules.speed account planet items technology.kind) (queues_research sight player at technology.kind account planet items) (λ none.
+    research-change sight player (Research at technology) at technology.kind account planet items own refl (research-room sight.rules.speed account planet items technology.kind none)))
 outcome-changes sight player (YardOf at unit count) =
     at-own sight player (YardOf at unit count) at (yards sight player at unit.kind count.n) (λ account planet own.
     let batches = queue_seen sight (Planet at) Yard in
-    unless-change sight player (YardOf at unit count) (yard_refusal account (sight.seen (Account player)).units planet batches unit.kind count.n) (queues_batch sight at unit.kind count.n planet batches)
-    (batch-change sight player (YardOf at unit count) at unit.kind count.n account planet batches own count.from (unit-place unit.kind unit.class) refl))
+    let units = (sight.seen (Account player)).units in
+    unless-refused sight player (YardOf at unit count) (yard_refusal account units planet batches unit.kind count.n) (queues_batch sight at unit.kind count.n planet batches) (λ none.
+    let room = yard-room account units planet batches unit.kind count.n none in
+    batch-change sight player (YardOf at unit count) at unit.kind count.n account planet batches own count.from (unit-place unit.kind unit.class) refl room.0 room.1))
 outcome-changes sight player (Set at work tenths) =
     at-own sight player (Set at work tenths) at (sets sight at work.kind tenths.n) (λ account planet own. fields (with_planet sight at _) (planet-alike sight at planet _ own.there (refl, refl)) refl)
 outcome-changes sight player Fleets = account-change sight player Fleets (own_seen sight (Account player)) (tells_fleets sight player) (λ account. nothing refl)
@@ -335,7 +398,8 @@ outcome-changes sight player (Send from to mission setting ships cargo) =
     let fleets = length (own_fleets player (sight.seen (Account player)).fleets) in
     let target = own_seen sight (Planet to) in
     unless-refused sight player req (send_refusal player account fleets planet target errand) (sends sight player errand account planet) (λ none.
-    sends-change sight player req errand account planet ships.kinds own (send-goes player account fleets planet target errand none).1)))
+    let goes = send-goes player account fleets planet target errand none in
+    sends-change sight player req errand account planet ships.kinds own goes.0 goes.1)))
 outcome-changes sight player (Recall fleet) =
     account-change sight player (Recall fleet) (own_seen sight (Account player)) (recalls_own sight player fleet.f) (λ account.
     recalls-change sight player fleet (fleet_of player fleet.f (sight.seen (Account player)).fleets) refl)

@@ -1,8 +1,8 @@
 -- What is seen of a cell after a change, by the change and by what was seen of that cell before.
-use Rattle.std.proofs.Common.{◌≡◌, ℕ, ◌+◌, ◌≤◌, inl, inr, Bool, true, false, not, cond, ◌&&◌, List, [], ◌∷◌, ◌++◌, ◌||◌, Option, None, Some, length, filter, sum, sum_by, if◌then◌else◌, arith, refl, ap, ◌∙◌, sym, subst}
+use Rattle.std.proofs.Common.{◌≡◌, ℕ, ◌+◌, ◌≤◌, inl, inr, Bool, true, false, not, cond, List, [], ◌∷◌, ◌||◌, Option, None, Some, length, sum, sum_by, if◌then◌else◌, arith, refl, ap, ◌∙◌, sym, subst}
 use Rattle.std.proofs.Math.Path.{fun_ext}
 use Rattle.std.proofs.lemmas.List.Sums.{sum_by-cons}
-use Rattle.std.specs.List.{filter_map, list_any}
+use Rattle.std.specs.List.{list_any}
 use Rattle.base_ids.specs.Cells.{same_cell, same_player}
 use Rattle.base_ids.specs.declared.player.Player.{Player}
 use Rattle.base_ids.specs.declared.cell_id.CellId.{CellId}
@@ -15,14 +15,14 @@ use Rattle.reply_text.specs.declared.units.Units.{Units}
 use Rattle.tick_model.specs.Events.{Event, item_due, lands, Owes, effect, event_change, footprint, home}
 use Rattle.tick_model.specs.Flights.{arrived, joined_by, landed, landing, moored, supplied, turns}
 use Rattle.tick_model.specs.Rules.{IsFlying, IsIn, KeepsRules, is_once}
-use Rattle.tick_model.specs.Universe.{of_planet, QueueClass, Yard, same_class, PlanetFields, Fleet, Item, Own, Setting, State}
-use Rattle.tick_model.specs.Views.{View, belongs, holding, holding_at, queue_in, ships_of, shown, stands_in, units_held, units_left, units_of, view}
-use Rattle.tick_model.proofs.Effects.{after, effect-is, event-counted, event-within, seen_of}
+use Rattle.tick_model.specs.Universe.{of_planet, QueueClass, Yard, PlanetFields, Fleet, Item, Setting, State}
+use Rattle.tick_model.specs.Views.{holding, holding_at, queue_in, ships_of, units_held, units_left, units_of, view}
+use Rattle.tick_model.proofs.Effects.{effect-is, event-counted, event-within, seen_of}
 use Rattle.tick_model.proofs.Footprints.{stays-within}
 use Rattle.tick_model.proofs.Landings.{after_landing, came_landed, flies-in, landing-belongs, landing-elsewhere, landing-is, landing-place, sum-changed, weight}
 use Rattle.tick_model.proofs.Nexts.{landing-listed}
-use Rattle.tick_model.proofs.Lists.{and-is, cell-from, cell-is, cell-itself, not-true, player-from}
-use Rattle.tick_model.proofs.Writes.{IsWithin, fleets-written, holding-outside, own-inside, own-outside, planets-kept, queue-written, shown-own, with_queue}
+use Rattle.tick_model.proofs.Lists.{cell-is, not-true}
+use Rattle.tick_model.proofs.Writes.{IsWithin, fleets-written, holding-outside, own-inside, own-outside, planets-kept, queue-written, shown-own}
 
 pub written-seen : (list : List CellId) (cells reach : CellId → Bool) (change : Change) (state : State) (x : CellId) → IsWithin cells reach change state → cells x ≡ true
     → view list (write cells change state) x ≡ record (seen_after change x (view list state x)) { units = (view list (write cells change state) x).units }

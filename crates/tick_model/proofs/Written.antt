@@ -1,5 +1,5 @@
 -- What a request makes of a state.
-use Rattle.std.proofs.Common.{◌≡◌, ℕ, ◌+◌, ◌<◌, ◌≤◌, ◌⊎◌, [], ◌∷◌, ◌++◌, inl, inr, Bool, true, cond, eqb, ◌&&◌, ◌||◌, Option, Some, ap, ◌∙◌, sym, subst}
+use Rattle.std.proofs.Common.{◌≡◌, ℕ, ◌+◌, ◌<◌, ◌≤◌, ◌⊎◌, [], ◌∷◌, ◌++◌, inl, inr, Bool, true, false, cond, eqb, ◌&&◌, ◌||◌, Option, Some, ap, ◌∙◌, sym, subst}
 use Rattle.base_ids.specs.Cells.{same_cell}
 use Rattle.base_ids.specs.declared.coord.Coord.{Coord}
 use Rattle.base_ids.specs.declared.player.Player.{Player}
@@ -73,7 +73,7 @@ abbrev pub change_of : Setting → Entry → ℕ → State → Change
 change_of setting a moment state = (outcome (sight setting a moment state) a.player a.req).change
 
 -- what stays alike of what is seen stays alike
-alike-after : (setting : Setting) (a : Entry) (t : ℕ) (u : State) (own : CellId → Own) → AllSeenAlike (sight setting a t u) own → AllAlike u (owns_after (cells_of setting a u) own u)
+pub alike-after : (setting : Setting) (a : Entry) (t : ℕ) (u : State) (own : CellId → Own) → AllSeenAlike (sight setting a t u) own → AllAlike u (owns_after (cells_of setting a u) own u)
 alike-after setting a t u own alike x =
     let cells = cells_of setting a u in
     elim (test (cells x)) [
@@ -90,7 +90,7 @@ owner-after setting a t u own alike x has =
     stays-owner (seen x) (own x) (alike-stays (seen x) (own x) (alike x)) ∙ ap owner_of (shown-own setting.cells (cells_of setting a u) u x has)
 
 -- a queue that is shown is the one that is there
-queue-shown : (setting : Setting) (a : Entry) (t : ℕ) (u : State) (cell : CellId) (class : QueueClass) → cells_of setting a u cell ≡ true
+pub queue-shown : (setting : Setting) (a : Entry) (t : ℕ) (u : State) (cell : CellId) (class : QueueClass) → cells_of setting a u cell ≡ true
     → queue_seen (sight setting a t u) cell class ≡ queue_in u.items cell class
 queue-shown setting a t u cell class asks = ap (λ (seen : View). seen.queue class) (shown-there (cells_of setting a u) (view setting.cells u) cell asks)
 
@@ -108,7 +108,7 @@ queue-asked cells Buildings at player caller payer = payer
 queue-asked cells Researches at player caller payer = caller
 queue-asked cells Yard at player caller payer = payer
 
-ordered-there : (setting : Setting) (a : Entry) (t : ℕ) (u : State) (item : Item) → IsOrdered (sight setting a t u) a.player item → OrderedThere setting a u item
+pub ordered-there : (setting : Setting) (a : Entry) (t : ℕ) (u : State) (item : Item) → IsOrdered (sight setting a t u) a.player item → OrderedThere setting a u item
 ordered-there setting a t u item new =
     let cells = cells_of setting a u in
     let planet = shown-planet cells (view setting.cells u) (Planet item.place) new.planet new.is_own.there in
@@ -177,6 +177,18 @@ either-reached : (cells reach : CellId → Bool) (old new : State) (x : CellId) 
     → (holding_at new x ≡ holding_at old x) ⊎ ((owner : Player) → owner_of (old.own x) ≡ Some owner → reach (Account owner) ≡ true)
 either-reached cells reach old new x among (inl same) = inl same
 either-reached cells reach old new x among (inr owned) = inr (λ owner is. among (Account owner) (owned owner is))
+
+-- where a fleet that is sent doesn't leave, a cell is as before
+pub departs-elsewhere : (setting : Setting) (a : Entry) (t : ℕ) (u : State) (own : CellId → Own) (fleet : Fleet) → (new : IsSent (sight setting a t u) a.player own fleet)
+    → (x : CellId) → same_cell (Planet fleet.origin) x ≡ false → owns_after (cells_of setting a u) own u x ≡ u.own x
+departs-elsewhere setting a t u own fleet new x apart =
+    let cells = cells_of setting a u in
+    let seen = owns (shown cells (view setting.cells u)) in
+    let put : own x ≡ seen x = ap (λ (o : CellId → Own). o x) new.own_is ∙ ap (λ b. cond b (of_planet new.departed) (seen x)) apart in
+    elim (test (cells x)) [
+      | inl has ↦ ap (λ b. cond b (own x) (u.own x)) has ∙ put ∙ shown-own setting.cells cells u x has
+      | inr out ↦ ap (λ b. cond b (own x) (u.own x)) out
+    ]
 
 owns-within : (setting : Setting) (a : Entry) (t : ℕ) (u : State) (reach : CellId → Bool) (own : CellId → Own) → ((y : CellId) → cells_of setting a u y ≡ true → reach y ≡ true)
     → AllSeenAlike (sight setting a t u) own
@@ -258,7 +270,6 @@ module _ (setting : Setting) (a : Entry) (t : ℕ) (S : CellId → Bool) (u : St
     departs-counted : (x : CellId) → (holding_at (with_sent (owns_after cells own u) fleet u) x ≡ holding_at u x)
         ⊎ ((owner : Player) → owner_of (u.own x) ≡ Some owner → cells (Account owner) ≡ true)
     departs-counted x =
-        let seen = owns (shown cells (view setting.cells u)) in
         elim (test (same_cell (Planet fleet.origin) x)) [
           | inl here ↦ inr (λ owner is.
               let planet : u.own x ≡ of_planet new.planet = ap u.own (sym (cell-is (Planet fleet.origin) x here)) ∙ origin-there.1 in
@@ -266,12 +277,7 @@ module _ (setting : Setting) (a : Entry) (t : ℕ) (S : CellId → Bool) (u : St
               let owner_is : new.planet.owner ≡ owner = cc in
               subst (λ k. cells (Account k) ≡ true) (sym new.is_own.owner ∙ owner_is) caller-there)
           | inr apart ↦
-              (let put : own x ≡ seen x = ap (λ (o : CellId → Own). o x) new.own_is ∙ ap (λ b. cond b (of_planet new.departed) (seen x)) apart in
-              let stays_there : owns_after cells own u x ≡ u.own x = elim (test (cells x)) [
-                | inl has ↦ ap (λ b. cond b (own x) (u.own x)) has ∙ put ∙ shown-own setting.cells cells u x has
-                | inr out ↦ ap (λ b. cond b (own x) (u.own x)) out
-              ] in
-              inl (ap (λ o. holding o (queue_in u.items x Yard)) stays_there))
+              inl (ap (λ o. holding o (queue_in u.items x Yard)) (departs-elsewhere setting a t u own fleet new x apart))
         ]
 
     sent-made : IsMade cells S (sends_fleet own fleet) t u

@@ -13,6 +13,7 @@ pub mod Sending
 pub mod Requests
 pub mod Step
 pub mod Rules
+pub mod Limits
 pub mod Game
 pub mod World
 pub mod History

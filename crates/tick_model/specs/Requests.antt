@@ -17,7 +17,6 @@ use Rattle.request_text.specs.declared.request.Request.{Request}
 use Rattle.request_text.specs.declared.request.Request.TheVariants.{Planet as PlanetOf, Account as AccountOf, Fleets, System as SystemOf, Build, Research, Yard as YardOf, Set, Send, Join, Recall}
 use Rattle.reply_text.specs.FleetLines.{at_line}
 use Rattle.reply_text.specs.OrderLines.{arrives_line, back_line, starts_line, waits_line}
-use Rattle.reply_text.specs.declared.units.Units.{Units}
 use Rattle.tick_model.specs.declared.codes.TheConstants.{NO_PLAYER, NO_PLANET, NO_FLEET, NOT_OUTBOUND, NOT_YOURS, NOT_BUILT}
 use Rattle.tick_model.specs.declared.rules.Rules.{Rules}
 use Rattle.tick_model.specs.Buildings.{pays, started}

@@ -1,5 +1,5 @@
 -- How a fleet is sent and recalled. Rules: docs/RULES.md, "Fleets" and "Refusals".
-use Rattle.std.specs.Prelude.{ℕ, ◌+◌, List, [], ◌∷◌, Bool, true, false, not, nat_le, ◌==◌, ◌&&◌, ◌||◌, Option, None, Some, slice_index, if◌then◌else◌}
+use Rattle.std.specs.Prelude.{ℕ, ◌+◌, List, [], ◌∷◌, Bool, true, false, not, nat_le, ◌==◌, ◌&&◌, Option, None, Some, slice_index, if◌then◌else◌}
 use Rattle.base_ids.specs.Cells.{same_cell, same_player}
 use Rattle.base_ids.specs.declared.cell_id.CellId.{CellId}
 use Rattle.base_ids.specs.declared.cell_id.CellId.TheVariants.{Planet}

@@ -4,6 +4,7 @@ ghost use Rattle.request_text.specs.declared.entry.Entry.{Entry};
 ghost use Rattle.tick_model.specs.Game.{game};
 ghost use Rattle.tick_model.specs.History.{IsLegal, MayFollow};
 ghost use Rattle.tick_model.specs.Keeping.{AnswersEntry, IsFounded, KeepsHistory};
+ghost use Rattle.tick_model.specs.Limits.{KeepsLimits};
 ghost use Rattle.tick_model.specs.Standing.{Stands, last_moment, last_number};
 ghost use Rattle.tick_model.specs.Talk.{Talk};
 ghost use Rattle.tick_model.specs.Universe.{Setting, Universe};
@@ -42,6 +43,13 @@ pub fn worlds_are_founded()
     ensures stands { (base : Universe) (history : List Entry) → IsLegal base history → Stands base history (world base history (last_moment base.moment history)) }
     ensures founded { (base : Universe) (history : List Entry) (moment : ℕ) → IsFounded base → IsLegal base history
         → last_moment base.moment history ≤ moment → IsFounded (world base history moment) }
+{}
+
+/// If the base of a history keeps the limits on queues and units, so does the universe that ticks, at every moment from the last
+/// entry's on.
+pub fn worlds_keep_limits()
+    ensures { (base : Universe) (history : List Entry) (moment : ℕ) → IsFounded base → KeepsLimits base.setting base.state → IsLegal base history
+        → last_moment base.moment history ≤ moment → KeepsLimits base.setting (world base history moment).state }
 {}
 
 /// A reply bears the number and the moment of its entry.

@@ -1,3 +1,4 @@
+use Rattle.base_bytes.proofs.Limited.{keeps-limits}
 use Rattle.base_bytes.proofs.Seen.{account-shown, fleets-in-order, nothing-shown, planet-shown}
 use Rattle.base_bytes.proofs.Bases.{sound-base}
 use Rattle.base_bytes.proofs.laws.stands_for_a_universe.Goals as goal
@@ -16,3 +17,6 @@ returns-clause-others c = nothing-shown
 
 pub returns-clause-fleets : goal.returns-clause-fleets
 returns-clause-fleets c = fleets-in-order
+
+pub returns-clause-limits : goal.returns-clause-limits
+returns-clause-limits c = keeps-limits
