@@ -1,0 +1,36 @@
+-- How a disk stands to its journal.
+use Rattle.std.specs.Prelude.{◌≡◌, ℕ, ◌-◌, List, ◌++◌, length, All, Result, OnOk}
+use Rattle.disk_port.specs.Moments.{EachNow, EachSince}
+use Rattle.disk_port.specs.Story.{Story}
+use Rattle.journal_store.specs.Batches.{IsBatch, open_batches, entries_of, HoldsFirst}
+use Rattle.journal_store.specs.Gates.{AtGate, IsFit}
+use Rattle.journal_store.specs.declared.journal.Journal.{Journal}
+use Rattle.request_text.specs.declared.entry.Entry.{Entry}
+
+-- how many of the entries that were drawn are durable
+abbrev pub settled : List Entry → Journal → ℕ
+settled drawn journal = length drawn - length journal.pending.items
+
+module _ {D : Type 0} (story : Story D) where
+  -- The disk holds a front, which is what stood before the first closed gate at the start. Behind it stand batches of the
+  -- entries that are durable since, and then what the journal keeps of the gate. A crash leaves all that.
+  pub record Stands (front : List ℕ) (drawn : List Entry) (journal : Journal) (disk : D) : Type 0 where
+    pub done : List (List Entry)
+    pub each : All IsBatch done
+    pub parts : entries_of done ++ journal.pending.items ≡ drawn
+    pub end_is : length (front ++ open_batches done) ≡ journal.end
+    pub images : EachNow story disk (AtGate journal.gate journal.pending.items (front ++ open_batches done))
+
+  -- it does so with some front and some entries
+  pub record CanFlush (journal : Journal) (disk : D) : Type 0 where
+    pub front : List ℕ
+    pub drawn : List Entry
+    pub stands : Stands front drawn journal disk
+
+  -- What calls on a disk lead to, which stood to its journal so: it goes on to, and if there was a gate at first, each image at
+  -- a moment since then begins with the front and holds the first entries that were drawn, at least those that were durable.
+  pub record Leads (front : List ℕ) (drawn : List Entry) (old new : Journal) (before after : D) : Type 0 where
+    pub stands : Stands front drawn new after
+    pub fit : IsFit old.gate → IsFit new.gate
+    pub since : IsFit old.gate → EachSince story before after (HoldsFirst front drawn (settled drawn old))
+    pub now : IsFit new.gate → EachNow story after (HoldsFirst front drawn (settled drawn new))

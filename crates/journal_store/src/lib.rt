@@ -1,0 +1,13 @@
+//! The journal: entries are numbered in one order, and made durable in batches.
+#![tactic(auto)]
+
+mod batch;
+mod draws;
+mod gate;
+mod journal;
+mod start;
+
+pub use batch::BATCH;
+pub use draws::{Draw, Prepared};
+pub use journal::Journal;
+pub use start::{LAST_START, Start};
