@@ -1,1 +1,5 @@
 pub mod Appending
+pub mod Calls
+pub mod Contents
+pub mod Holding
+pub mod Sizes

@@ -6,6 +6,7 @@ mod draws;
 mod gate;
 mod journal;
 mod start;
+mod steps;
 
 pub use batch::BATCH;
 pub use draws::{Draw, Prepared};
