@@ -13,8 +13,7 @@ module _ {D : Type 0} (story : Story D) where
   pub since_write : {T E : Type 0} (old mid : D) (at n : ℕ) (result : Result T E) → Lawful story → Told story old mid (Tears story (Torn at n) old mid result) → Told story old mid (Elapses story old mid)
       → Told story old mid (EachSince story old mid (TornFrom story old at n))
   since_write old mid at n result lawful tears time told =
-      let before = (tears told).0 in
-      (
+      let before = (tears told).0 in (
         before,
         goes_on story old old mid (TornFrom story old at n) (started story old (TornFrom story old at n) lawful before (λ c left. (c, left, torn_not at n c))) (time told).1 (λ c left. (tears told).1.no_other c left),
       )

@@ -50,3 +50,15 @@ abbrev pub batch_size : Gate → ℕ → ℕ
 batch_size Missing pending = min pending BATCH
 batch_size Closed pending = min pending BATCH
 batch_size (Staged count) pending = count
+
+-- no batch is staged
+abbrev pub IsUnstaged : Gate → Type 0
+IsUnstaged Missing = Unit {0}
+IsUnstaged Closed = Unit {0}
+IsUnstaged (Staged count) = ⊥
+
+-- how many bytes of the gate stand already
+abbrev pub standing : Gate → ℕ
+standing Missing = 0
+standing Closed = 1
+standing (Staged count) = 1

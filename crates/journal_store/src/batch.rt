@@ -1,5 +1,6 @@
 // A batch as bytes.
-ghost use Rattle.std.specs.Prelude.{◌≡◌, ◌≤◌, ◌+◌, ◌++◌, [], ◌∷◌, length, take, vec_capacity};
+ghost use Rattle.std.specs.Prelude.{◌≡◌, ◌≤◌, ◌+◌, ◌*◌, ◌++◌, [], ◌∷◌, length, take, drop, vec_capacity};
+ghost use Rattle.std.specs.VecDeque.{deque_capacity};
 ghost use Rattle.journal_store.specs.Gates.{behind};
 ghost use Rattle.records.specs.Entries.{entry_bytes};
 
@@ -20,6 +21,7 @@ pub fn fill(room: &mut Vec<u8>, pending: &VecDeque<Entry>, count: usize)
     requires most { count ≤ BATCH }
     requires within { count ≤ length pending.now.items }
     ensures bytes { room.new.items ≡ 0 ∷ behind (take count pending.now.items) }
+    ensures len { length room.new.items ≡ 3 + 256 * count }
     ensures capacity { vec_capacity room.old ≤ vec_capacity room.new }
 {
     room.clear();
@@ -50,4 +52,15 @@ fn put(room: &mut Vec<u8>, bytes: &[u8])
     ensures capacity { vec_capacity room.old ≤ vec_capacity room.new }
 {
     let _ = room.extend_from_slice(bytes);
+}
+
+/// Takes so many of the first entries away.
+pub fn drop_front(pending: &mut VecDeque<Entry>, count: usize)
+    requires { count ≤ length pending.old.items }
+    ensures items { pending.new.items ≡ drop count pending.old.items }
+    ensures capacity { deque_capacity pending.new ≡ deque_capacity pending.old }
+{
+    'entries: for _ in 0..count {
+        let _ = pending.pop_front();
+    }
 }

@@ -3,6 +3,7 @@
 
 mod batch;
 mod draws;
+mod flush;
 mod gate;
 mod journal;
 mod start;
