@@ -7,7 +7,7 @@ use Rattle.disk_port.specs.Moments.{EachNow, EachSince}
 use Rattle.disk_port.specs.Story.{Story, Lawful, Told}
 use Rattle.disk_port.proofs.Moments.{started, joined, weakened, now-since, seen-now}
 use Rattle.journal_store.specs.Batches.{IsBatch, open_batch, open_batches, entries_of, HoldsFirst}
-use Rattle.journal_store.specs.Gates.{AtGate, IsFit, IsUnstaged, Rests, Stages, behind, batch_size, standing}
+use Rattle.journal_store.specs.Gates.{AtGate, Begins, IsFit, IsUnstaged, Rests, Stages, behind, batch_size, standing}
 use Rattle.journal_store.specs.Ledger.{Settles}
 use Rattle.journal_store.specs.Standing.{TornFrom, Stands, CanFlush, Leads, settled}
 use Rattle.journal_store.specs.declared.batch.TheConstants.{BATCH}
@@ -16,7 +16,7 @@ use Rattle.journal_store.specs.declared.gate.Gate.TheVariants.{Missing, Closed, 
 use Rattle.journal_store.specs.declared.journal.Journal.{Journal}
 use Rattle.journal_store.proofs.Holding.{batches-more, parts-more, is_batch, holds-at_gate}
 use Rattle.journal_store.proofs.Sizes.{length-open}
-use Rattle.journal_store.proofs.Writing.{batch-torn, batch-written, at_gate-long, gate-torn, gate-written}
+use Rattle.journal_store.proofs.Writing.{at_gate-begins, batch-torn, batch-written, at_gate-long, gate-torn, gate-written}
 use Rattle.request_text.specs.declared.entry.Entry.{Entry}
 
 module _ {D : Type 0} (story : Story D) where
@@ -39,6 +39,7 @@ module _ {D : Type 0} (story : Story D) where
       → EachSince story before after (AtGate old.gate old.pending.items (front ++ open_batches stands.done)) → Leads story front drawn old new before after
   leads-by front drawn old new before after stands stands_on fit since = record {
     stands = stands_on;
+    kept = weakened story before after (AtGate old.gate old.pending.items (front ++ open_batches stands.done)) (Begins front) since (λ c at. at_gate-begins old.gate old.pending.items front (open_batches stands.done) c at);
     fit = fit;
     since = λ is_fit. weakened story before after (AtGate old.gate old.pending.items (front ++ open_batches stands.done)) (HoldsFirst front drawn (settled drawn old)) since
         (λ c at. at_gate-holds front drawn old before stands c is_fit at);
@@ -56,6 +57,7 @@ module _ {D : Type 0} (story : Story D) where
       → Leads story front drawn old new before after
   leads-on front drawn old mid new before between after same first second = record {
     stands = second.stands;
+    kept = joined story before between after (Begins front) first.kept second.kept;
     fit = λ fit. second.fit (first.fit fit);
     since = λ fit.
         let P : List ℕ → Type 0 = HoldsFirst front drawn (settled drawn old) in

@@ -2,6 +2,7 @@ pub mod Appending
 pub mod Calls
 pub mod Contents
 pub mod Holding
+pub mod Going
 pub mod Leading
 pub mod Settling
 pub mod Sizes

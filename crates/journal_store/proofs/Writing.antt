@@ -1,5 +1,5 @@
 -- What the writes of a flush do to each image, by what stood where the batches end.
-use Rattle.std.proofs.Common.{◌≡◌, ℕ, ◌+◌, ◌≤◌, List, [], ◌∷◌, ◌++◌, length, take, drop, sym, ap, subst, arith, add-zero, length-append}
+use Rattle.std.proofs.Common.{◌≡◌, ℕ, ◌+◌, ◌≤◌, List, [], ◌∷◌, ◌++◌, length, take, drop, sym, ◌∙◌, ap, subst, arith, append_assoc, length-append}
 use Rattle.disk_port.specs.Contents.{written, Torn}
 use Rattle.journal_store.specs.Batches.{open_batch}
 use Rattle.journal_store.specs.Gates.{AtGate, IsUnstaged, Begins, Rests, Stages, behind, standing}
@@ -37,3 +37,11 @@ pub gate-written : (text : List ℕ) (entries : List Entry) (d : List ℕ) (at :
 gate-written text entries d at at_is stages =
     subst (λ (a : ℕ). Rests (text ++ open_batch entries) (written d a (1 ∷ []))) at_is
     (rests-opened text entries (written d (length text) (1 ∷ [])) (opens-written text (behind entries) d stages))
+
+-- a front of the text stays
+pub at_gate-begins : (gate : Gate) (pending : List Entry) (front more c : List ℕ) → AtGate gate pending (front ++ more) c → Begins front c
+at_gate-begins Missing pending front more c begins = record { rest = more ++ begins.rest; is = begins.is ∙ append_assoc front more begins.rest }
+at_gate-begins Closed pending front more c rests = record { rest = more ++ rests.gate ∷ rests.rest; is = rests.is ∙ append_assoc front more (rests.gate ∷ rests.rest) }
+at_gate-begins (Staged count) pending front more c stages =
+    let behind_it = stages.gate ∷ (behind (take count pending) ++ stages.rest) in
+    record { rest = more ++ behind_it; is = stages.is ∙ append_assoc front more behind_it }

@@ -4,7 +4,7 @@ use Rattle.disk_port.specs.Contents.{Torn}
 use Rattle.disk_port.specs.Moments.{EachNow, EachSince}
 use Rattle.disk_port.specs.Story.{Story}
 use Rattle.journal_store.specs.Batches.{IsBatch, open_batches, entries_of, HoldsFirst}
-use Rattle.journal_store.specs.Gates.{AtGate, IsFit}
+use Rattle.journal_store.specs.Gates.{AtGate, Begins, IsFit}
 use Rattle.journal_store.specs.declared.journal.Journal.{Journal}
 use Rattle.request_text.specs.declared.entry.Entry.{Entry}
 
@@ -32,10 +32,12 @@ module _ {D : Type 0} (story : Story D) where
     pub drawn : List Entry
     pub stands : Stands front drawn journal disk
 
-  -- What calls on a disk lead to, which stood to its journal so: it goes on to, and if there was a gate at first, each image at
-  -- a moment since then begins with the front and holds the first entries that were drawn, at least those that were durable.
+  -- What calls on a disk lead to that stood to its journal so: it still does, and each image at a moment since then begins
+  -- with the front. If there was a gate at first, each of these images holds the first entries that were drawn, at least
+  -- those that were durable then, and each image now at least those that are durable now.
   pub record Leads (front : List ℕ) (drawn : List Entry) (old new : Journal) (before after : D) : Type 0 where
     pub stands : Stands front drawn new after
+    pub kept : EachSince story before after (Begins front)
     pub fit : IsFit old.gate → IsFit new.gate
     pub since : IsFit old.gate → EachSince story before after (HoldsFirst front drawn (settled drawn old))
     pub now : IsFit new.gate → EachNow story after (HoldsFirst front drawn (settled drawn new))

@@ -22,6 +22,7 @@ impl Journal {
     pub fn flush<D: Disk>(&mut self, disk: &mut D) -> Result<u64, Failed>
         requires { D.story.tells disk.old → CanFlush D.story self.old disk.old }
         ensures flushes { Flushes self.old self.new result }
+        ensures more { OnOk result (1 ≤ length self.old.pending.items → self.old.durable + 1 ≤ self.new.durable) }
         ensures idle { self.old.pending.items ≡ [] → disk.new ≡ disk.old }
         ensures closed { OnOk result (self.old.pending.items ≢ [] → self.new.gate ≡ Closed) }
         ensures keeps { (start : Start) (drawn : List Entry) → Keeps start drawn self.old → Keeps start drawn self.new }

@@ -6,10 +6,12 @@ mod draws;
 mod flush;
 mod gate;
 mod journal;
+mod laws;
 mod start;
 mod steps;
 
 pub use batch::BATCH;
 pub use draws::{Draw, Prepared};
 pub use journal::Journal;
+pub use laws::journals_stand;
 pub use start::{LAST_START, Start};
