@@ -70,7 +70,7 @@ module _ {D : Type 0} (story : Story D) where
     images = λ c left.
         subst (λ (g : Gate). AtGate g new.pending.items (front ++ open_batches stands.done) c) (sym appends.place.gate)
         (subst (λ (l : List Entry). AtGate old.gate l (front ++ open_batches stands.done) c) (sym appends.pending)
-            (at_gate-more old.gate old.pending.items (entry ∷ []) (front ++ open_batches stands.done) c old.fits.staged (stands.images c left)));
+        (at_gate-more old.gate old.pending.items (entry ∷ []) (front ++ open_batches stands.done) c old.fits.staged (stands.images c left)));
   }
 
   pub holds-on : (front : List ℕ) (drawn more : List Entry) (least less : ℕ) (old mid new : D) → less ≤ least → EachSince story old mid (HoldsFirst front drawn less) → EachSince story mid new (HoldsFirst front (drawn ++ more) least)
@@ -81,7 +81,7 @@ module _ {D : Type 0} (story : Story D) where
       joined story old mid new P
       (weakened story old mid (HoldsFirst front drawn less) P first (λ c holds. holds-more front drawn more less less c (omega arith) holds))
       (weakened story mid new (HoldsFirst front (drawn ++ more) least) P second
-          (λ c holds. subst (λ (l : List Entry). HoldsFirst front l less c) all_are (holds-more front (drawn ++ more) [] least less c fewer holds)))
+      (λ c holds. subst (λ (l : List Entry). HoldsFirst front l less c) all_are (holds-more front (drawn ++ more) [] least less c fewer holds)))
 
   -- it can be flushed after a reserve
   pub can-reserved : (old new : Journal) (disk : D) → CanFlush story old disk → SamePlace old new → new.pending.items ≡ old.pending.items → CanFlush story new disk

@@ -9,6 +9,8 @@ mod journal;
 mod laws;
 mod start;
 mod steps;
+#[cfg(test)]
+mod tests;
 
 pub use batch::BATCH;
 pub use draws::{Draw, Prepared};
