@@ -58,8 +58,8 @@ keeps_more start drawn old new entry follows appends keeps = record {
   legal = legal-more start.last_number start.last_moment drawn entry keeps.legal (record { next = follows.next ∙ ap (λ n. n + 1) keeps.number; latest = cc (follows.latest, keeps.moment) });
   number = appends.number ∙ sym (last_number-more start.last_number drawn entry);
   moment = appends.moment ∙ sym (last_moment-more start.last_moment drawn entry);
-  capacity = appends.place.capacity ∙ keeps.capacity;
+  capacity = appends.capacity ∙ keeps.capacity;
   done = keeps.done;
   parts = ap (λ (l : List Entry). keeps.done ++ l) appends.pending ∙ sym (append_assoc keeps.done old.pending.items (entry ∷ [])) ∙ ap (λ (l : List Entry). l ++ entry ∷ []) keeps.parts;
-  durable = appends.place.durable ∙ keeps.durable;
+  durable = appends.durable ∙ keeps.durable;
 }

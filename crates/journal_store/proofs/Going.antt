@@ -8,7 +8,7 @@ use Rattle.disk_port.specs.Story.{Story}
 use Rattle.disk_port.proofs.Moments.{joined, weakened}
 use Rattle.journal_store.specs.Batches.{Batches, HoldsFirst, IsBatch, open_batches, entries_of}
 use Rattle.journal_store.specs.Gates.{AtGate, Stages, batch_size, behind}
-use Rattle.journal_store.specs.Ledger.{Appends, Draws, IsNew, SamePlace, numbered}
+use Rattle.journal_store.specs.Ledger.{Appends, Draws, IsNew, SameEntries, SamePlace, numbered}
 use Rattle.journal_store.specs.Standing.{CanFlush, Stands}
 use Rattle.journal_store.specs.declared.draws.Draw.{Draw}
 use Rattle.journal_store.specs.declared.draws.Draw.TheVariants.{Full, Late, Taken}
@@ -50,15 +50,15 @@ module _ {D : Type 0} (story : Story D) where
             subst (λ (l : List ℕ). AtGate journal.gate journal.pending.items l c) (sym text_is) (subst (λ (l : List Entry). AtGate journal.gate l front c) (sym is_new.pending) (images c left));
       }
 
-  pub stands-reserved : (front : List ℕ) (drawn : List Entry) (old new : Journal) (disk : D) → Stands story front drawn old disk → SamePlace old new → new.pending.items ≡ old.pending.items → Stands story front drawn new disk
-  stands-reserved front drawn old new disk stands place pending_is = record {
+  pub stands-reserved : (front : List ℕ) (drawn : List Entry) (old new : Journal) (disk : D) → Stands story front drawn old disk → SamePlace old new → SameEntries old new → Stands story front drawn new disk
+  stands-reserved front drawn old new disk stands place entries = record {
     done = stands.done;
     each = stands.each;
-    parts = ap (λ (l : List Entry). entries_of stands.done ++ l) pending_is ∙ stands.parts;
+    parts = ap (λ (l : List Entry). entries_of stands.done ++ l) entries.pending ∙ stands.parts;
     end_is = stands.end_is ∙ sym place.end;
     images = λ c left.
         subst (λ (g : Gate). AtGate g new.pending.items (front ++ open_batches stands.done) c) (sym place.gate)
-        (subst (λ (l : List Entry). AtGate old.gate l (front ++ open_batches stands.done) c) (sym pending_is) (stands.images c left));
+        (subst (λ (l : List Entry). AtGate old.gate l (front ++ open_batches stands.done) c) (sym entries.pending) (stands.images c left));
   }
 
   pub stands-appended : (front : List ℕ) (drawn : List Entry) (entry : Entry) (old new : Journal) (disk : D) → Stands story front drawn old disk → Appends old entry new → Stands story front (drawn ++ entry ∷ []) new disk
@@ -84,8 +84,8 @@ module _ {D : Type 0} (story : Story D) where
       (λ c holds. subst (λ (l : List Entry). HoldsFirst front l less c) all_are (holds-more front (drawn ++ more) [] least less c fewer holds)))
 
   -- it can be flushed after a reserve
-  pub can-reserved : (old new : Journal) (disk : D) → CanFlush story old disk → SamePlace old new → new.pending.items ≡ old.pending.items → CanFlush story new disk
-  can-reserved old new disk can place pending_is = record { front = can.front; drawn = can.drawn; stands = stands-reserved can.front can.drawn old new disk can.stands place pending_is }
+  pub can-reserved : (old new : Journal) (disk : D) → CanFlush story old disk → SamePlace old new → SameEntries old new → CanFlush story new disk
+  can-reserved old new disk can place entries = record { front = can.front; drawn = can.drawn; stands = stands-reserved can.front can.drawn old new disk can.stands place entries }
 
   -- and after a draw
   pub can-drawn : (old new : Journal) (prepared : Prepared) (draw : Draw) (disk : D) → CanFlush story old disk → Draws old prepared new draw → CanFlush story new disk

@@ -4,7 +4,7 @@ use Rattle.disk_port.specs.Moments.{EachNow, EachSince}
 use Rattle.disk_port.specs.Story.{Story}
 use Rattle.journal_store.specs.Batches.{HoldsFirst}
 use Rattle.journal_store.specs.Gates.{AtGate, IsFit}
-use Rattle.journal_store.specs.Ledger.{IsNew, SamePlace, Appends}
+use Rattle.journal_store.specs.Ledger.{IsNew, SameEntries, SamePlace, Appends}
 use Rattle.journal_store.specs.Standing.{Stands, settled}
 use Rattle.journal_store.specs.declared.journal.Journal.{Journal}
 use Rattle.journal_store.specs.declared.start.Start.{Start}
@@ -15,7 +15,7 @@ module _ {D : Type 0} (story : Story D) where
     -- a disk of which a crash leaves the front and its closed gate stands to a new journal
     pub started : (start : Start) (front : List ℕ) (journal : Journal) (disk : D) → IsNew start journal → length front ≡ start.end → EachNow story disk (AtGate journal.gate [] front) → Stands story front [] journal disk
     -- a reserve leaves the disk alone
-    pub reserved : (front : List ℕ) (drawn : List Entry) (old new : Journal) (disk : D) → Stands story front drawn old disk → SamePlace old new → new.pending.items ≡ old.pending.items → Stands story front drawn new disk
+    pub reserved : (front : List ℕ) (drawn : List Entry) (old new : Journal) (disk : D) → Stands story front drawn old disk → SamePlace old new → SameEntries old new → Stands story front drawn new disk
     -- and so does a draw
     pub appended : (front : List ℕ) (drawn : List Entry) (entry : Entry) (old new : Journal) (disk : D) → Stands story front drawn old disk → Appends old entry new → Stands story front (drawn ++ entry ∷ []) new disk
     -- each image holds what is durable

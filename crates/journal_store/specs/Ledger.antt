@@ -38,19 +38,27 @@ pub record IsPrepared (prepared : Prepared) (last : ℕ) : Type 0 where
   pub moment : prepared.moment ≡ max prepared.reading seen
   pub latest : prepared.moment ≤ LATEST
 
--- what else a journal keeps of its disk stays
+-- what a journal keeps of its disk stays
 pub record SamePlace (old new : Journal) : Type 0 where
   pub gate : new.gate ≡ old.gate
   pub end : new.end ≡ old.end
+
+-- and so does what it keeps of its entries
+pub record SameEntries (old new : Journal) : Type 0 where
+  pub number : new.last_number ≡ old.last_number
+  pub moment : new.last_moment ≡ old.last_moment
   pub capacity : new.capacity ≡ old.capacity
   pub durable : new.durable ≡ old.durable
+  pub pending : new.pending.items ≡ old.pending.items
 
 -- a journal has one entry more
 pub record Appends (old : Journal) (entry : Entry) (new : Journal) : Type 0 where
   pub place : SamePlace old new
-  pub pending : new.pending.items ≡ old.pending.items ++ entry ∷ []
   pub number : new.last_number ≡ entry.number
   pub moment : new.last_moment ≡ entry.moment
+  pub capacity : new.capacity ≡ old.capacity
+  pub durable : new.durable ≡ old.durable
+  pub pending : new.pending.items ≡ old.pending.items ++ entry ∷ []
 
 -- what comes of a request that asks for its number
 abbrev pub Draws : Journal → Prepared → Journal → Draw → Type 0

@@ -7,7 +7,7 @@ use disk_port::Disk;
 use ports::Failed;
 
 impl Journal {
-    ghost use Rattle.std.specs.Prelude.{◌≡◌, ◌≢◌, ℕ, ◌+◌, ◌*◌, ◌≤◌, List, [], length, IfOk, OnOk, OnErr};
+    ghost use Rattle.std.specs.Prelude.{◌≡◌, ◌≢◌, ℕ, ◌+◌, ◌*◌, ◌≤◌, List, [], length, IfOk, IsOk, OnOk, OnErr};
     ghost use Rattle.disk_port.specs.Story.{Told};
     ghost use Rattle.journal_store.specs.Gates.{IsUnstaged, batch_size};
     ghost use Rattle.journal_store.specs.Ledger.{Flushes, Keeps, Settles};
@@ -23,7 +23,7 @@ impl Journal {
         requires { D.story.tells disk.old → CanFlush D.story self.old disk.old }
         ensures flushes { Flushes self.old self.new result }
         ensures more { OnOk result (1 ≤ length self.old.pending.items → self.old.durable + 1 ≤ self.new.durable) }
-        ensures idle { self.old.pending.items ≡ [] → disk.new ≡ disk.old }
+        ensures idle { self.old.pending.items ≡ [] → (disk.new ≡ disk.old) × (self.new ≡ self.old) × IsOk result }
         ensures closed { OnOk result (self.old.pending.items ≢ [] → self.new.gate ≡ Closed) }
         ensures keeps { (start : Start) (drawn : List Entry) → Keeps start drawn self.old → Keeps start drawn self.new }
         ensures leads { Told D.story disk.old disk.new ((front : List ℕ) (drawn : List Entry)

@@ -32,7 +32,7 @@ pub struct Journal {
 
 impl Journal {
     ghost use Rattle.std.specs.Prelude.{◌≡◌, ◌<◌, ◌≤◌, ◌-◌, ◌++◌, ◌∷◌, [], List, IfOk, OnOk, OnErr};
-    ghost use Rattle.journal_store.specs.Ledger.{Appends, CanStart, IsNew, IsPrepared, Draws, IfTaken, Keeps, SamePlace, count_of, numbered, spare};
+    ghost use Rattle.journal_store.specs.Ledger.{Appends, CanStart, IsNew, IsPrepared, Draws, IfTaken, Keeps, SameEntries, SamePlace, count_of, numbered, spare};
     ghost use Rattle.journal_store.specs.declared.start.Start.{Start};
     ghost use Rattle.records.specs.Ranges.{IsInRange};
     ghost use Rattle.request_text.specs.declared.entry.Entry.{Entry};
@@ -86,7 +86,7 @@ impl Journal {
     pub fn reserve(&mut self) -> Result<(), AllocError>
         ensures room { OnOk result (1 ≤ spare self.new) }
         ensures place { SamePlace self.old self.new }
-        ensures pending { self.new.pending.items ≡ self.old.pending.items }
+        ensures entries { SameEntries self.old self.new }
         ensures keeps { (start : Start) (drawn : List Entry) → Keeps start drawn self.old → Keeps start drawn self.new }
     {
         self.pending.reserve(1)
