@@ -1,8 +1,7 @@
 -- A journal with one entry more.
-use Rattle.std.proofs.Common.{◌≡◌, ℕ, ◌+◌, ◌<◌, ◌≤◌, min, List, [], ◌∷◌, ◌++◌, length, refl, sym, ◌∙◌, ap, subst, arith, append_assoc, length-append}
+use Rattle.std.proofs.Common.{◌≡◌, ℕ, ◌+◌, ◌<◌, ◌≤◌, List, [], ◌∷◌, ◌++◌, length, sym, ◌∙◌, ap, subst, arith, append_assoc, length-append}
 use Rattle.std.specs.List.{All}
 use Rattle.std.proofs.lemmas.List.Elements.{All-append, All-cons, All-nil}
-use Rattle.base_ids.specs.declared.numbers.TheConstants.{LAST_NUMBER}
 use Rattle.journal_store.specs.Fitting.{Fits}
 use Rattle.journal_store.specs.Gates.{batch_size}
 use Rattle.journal_store.specs.Ledger.{Appends, Keeps}
@@ -13,8 +12,7 @@ use Rattle.journal_store.specs.declared.journal.Journal.{Journal}
 use Rattle.journal_store.specs.declared.start.Start.{Start}
 use Rattle.records.specs.Ranges.{IsInRange}
 use Rattle.request_text.specs.declared.entry.Entry.{Entry}
-use Rattle.tick_model.specs.History.{IsLegalFrom, MayFollow}
-use Rattle.tick_model.specs.Standing.{last_moment, last_number}
+use Rattle.tick_model.specs.History.{MayFollow}
 use Rattle.tick_model.proofs.Worlds.{legal-more, last_moment-more, last_number-more}
 
 -- the next batch is still one of the first pending entries

@@ -1,6 +1,6 @@
 -- What a write and a sync lead to.
-use Rattle.std.proofs.Common.{◌≡◌, inl, inr, ℕ, ◌+◌, ◌≤◌, List, length, Result, Ok, Err, OnOk, OnErr, sym, ◌∙◌, arith}
-use Rattle.disk_port.specs.Contents.{written, Torn}
+use Rattle.std.proofs.Common.{◌≡◌, ℕ, List, Result, Ok, Err, OnOk, ◌∙◌}
+use Rattle.disk_port.specs.Contents.{Torn}
 use Rattle.disk_port.specs.Disk.{Tears, Settles, Elapses}
 use Rattle.disk_port.specs.HistoryLaws.{torn_not}
 use Rattle.disk_port.specs.Moments.{EachNow, EachSince}

@@ -1,12 +1,12 @@
 -- Which entries a content holds, by what stands where its batches end.
-use Rattle.std.proofs.Common.{◌≡◌, inl, inr, ◌⊎◌, ℕ, ◌+◌, ◌-◌, ◌<◌, ◌≤◌, List, [], ◌∷◌, ◌++◌, length, take, drop, refl, sym, ◌∙◌, ap, subst, arith, append_assoc, append-nil, length-append, length-take, take-append-drop}
-use Rattle.std.specs.List.{All, flat_map}
+use Rattle.std.proofs.Common.{◌≡◌, inl, inr, ℕ, ◌+◌, ◌-◌, ◌≤◌, List, [], ◌∷◌, ◌++◌, length, take, drop, refl, sym, ◌∙◌, ap, subst, arith, append_assoc, append-nil, length-append, length-take, take-append-drop}
+use Rattle.std.specs.List.{All}
 use Rattle.std.proofs.lemmas.Bool.{cases_eq}
 use Rattle.std.proofs.lemmas.List.{take_at, drop_at}
 use Rattle.std.proofs.lemmas.List.Concat.{flat_map-append}
 use Rattle.std.proofs.lemmas.List.Elements.{All-push, All-take}
-use Rattle.journal_store.specs.Batches.{IsBatch, batch_bytes, open_batch, open_batches, entries_of, Batches, HoldsFirst}
-use Rattle.journal_store.specs.Gates.{AtGate, IsFit, Rests, Stages, Opens, behind, batch_size}
+use Rattle.journal_store.specs.Batches.{IsBatch, open_batch, open_batches, entries_of, HoldsFirst}
+use Rattle.journal_store.specs.Gates.{AtGate, IsFit, Rests, Stages, behind, batch_size}
 use Rattle.journal_store.specs.declared.batch.TheConstants.{BATCH}
 use Rattle.journal_store.specs.declared.gate.Gate.{Gate}
 use Rattle.journal_store.specs.declared.gate.Gate.TheVariants.{Missing, Closed, Staged}

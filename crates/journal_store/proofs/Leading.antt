@@ -1,6 +1,5 @@
 -- What the calls of a flush lead to.
-use Rattle.std.proofs.Common.{◌≡◌, inl, inr, ℕ, ◌+◌, ◌-◌, ◌*◌, ◌≤◌, List, [], ◌∷◌, ◌++◌, length, take, drop, Result, Ok, Err, OnOk, refl, sym, ◌∙◌, ap, subst, arith, length-append, length-take}
-use Rattle.std.specs.List.{All}
+use Rattle.std.proofs.Common.{◌≡◌, ℕ, ◌+◌, ◌-◌, ◌*◌, ◌≤◌, List, [], ◌∷◌, ◌++◌, length, take, drop, sym, ◌∙◌, ap, subst, arith, length-append, length-take}
 use Rattle.std.proofs.lemmas.List.Elements.{All-push}
 use Rattle.disk_port.specs.Contents.{written, Torn}
 use Rattle.disk_port.specs.Moments.{EachNow, EachSince}
@@ -12,7 +11,7 @@ use Rattle.journal_store.specs.Ledger.{Settles}
 use Rattle.journal_store.specs.Standing.{TornFrom, Stands, CanFlush, Leads, settled}
 use Rattle.journal_store.specs.declared.batch.TheConstants.{BATCH}
 use Rattle.journal_store.specs.declared.gate.Gate.{Gate}
-use Rattle.journal_store.specs.declared.gate.Gate.TheVariants.{Missing, Closed, Staged}
+use Rattle.journal_store.specs.declared.gate.Gate.TheVariants.{Closed, Staged}
 use Rattle.journal_store.specs.declared.journal.Journal.{Journal}
 use Rattle.journal_store.proofs.Holding.{batches-more, parts-more, is_batch, holds-at_gate}
 use Rattle.journal_store.proofs.Sizes.{length-open}

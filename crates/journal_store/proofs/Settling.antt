@@ -1,5 +1,5 @@
 -- A journal of which a batch is durable.
-use Rattle.std.proofs.Common.{◌≡◌, ℕ, ◌+◌, List, ◌++◌, length, take, drop, ◌∙◌, ap, sym, arith, append_assoc, length-append, length-take, take-append-drop}
+use Rattle.std.proofs.Common.{ℕ, List, ◌++◌, take, ◌∙◌, ap, arith, append_assoc, length-append, length-take, take-append-drop}
 use Rattle.journal_store.specs.Ledger.{Keeps, Settles}
 use Rattle.journal_store.specs.declared.journal.Journal.{Journal}
 use Rattle.journal_store.specs.declared.start.Start.{Start}

@@ -1,5 +1,5 @@
 -- What may stand behind a text that ends where a batch's gate has its place.
-use Rattle.std.specs.Prelude.{◌≡◌, ◌≢◌, ℕ, ◌-◌, min, List, [], ◌∷◌, ◌++◌, length, take}
+use Rattle.std.specs.Prelude.{◌≡◌, ◌≢◌, ℕ, min, List, [], ◌∷◌, ◌++◌, take}
 use Rattle.journal_store.specs.Batches.{batch_bytes}
 use Rattle.journal_store.specs.declared.batch.TheConstants.{BATCH}
 use Rattle.journal_store.specs.declared.gate.Gate.{Gate}

@@ -1,6 +1,5 @@
-use Rattle.std.proofs.Common.{◌≡◌, ◌≤◌, ◌+◌, ◌*◌, ◌++◌, ◌∷◌, length, take, vec_capacity}
+use Rattle.std.proofs.Common.{◌≡◌, ◌≤◌, ◌+◌, ◌*◌, ◌∷◌, length, take, vec_capacity}
 use Rattle.std.specs.List.{flat_map}
-use Rattle.journal_store.specs.declared.batch.TheConstants.{ROOM}
 use Rattle.records.specs.Entries.{entry_bytes}
 use Rattle.journal_store.proofs.batch.fill.Given as goal
 

@@ -1,4 +1,4 @@
-use Rattle.std.proofs.Common.{◌≡◌, ℕ, true, false, Bool, List, [], ◌∷◌, ◌++◌, length, codes, if◌then◌else◌, refl, sym, ◌∙◌, subst, arith}
+use Rattle.std.proofs.Common.{◌≡◌, ℕ, true, false, Bool, List, [], ◌∷◌, ◌++◌, codes, if◌then◌else◌, refl, sym, ◌∙◌, subst, arith}
 use Rattle.disk_port.specs.Memory.{memory_story, IsFresh}
 use Rattle.disk_port.specs.declared.memory.MemoryDisk.{MemoryDisk}
 use Rattle.journal_store.specs.Gates.{AtGate}
