@@ -1,10 +1,11 @@
 -- A journal with one entry more.
-use Rattle.std.proofs.Common.{◌≡◌, ℕ, ◌+◌, ◌<◌, ◌≤◌, List, [], ◌∷◌, ◌++◌, length, sym, ◌∙◌, ap, subst, arith, append_assoc, length-append}
+use Rattle.std.proofs.Common.{◌≡◌, ℕ, ◌+◌, ◌<◌, ◌≤◌, List, [], ◌∷◌, ◌++◌, length, drop, sym, ◌∙◌, ap, subst, arith, length-append}
 use Rattle.std.specs.List.{All}
+use Rattle.std.proofs.lemmas.List.{drop-append-le}
 use Rattle.std.proofs.lemmas.List.Elements.{All-append, All-cons, All-nil}
 use Rattle.journal_store.specs.Fitting.{Fits}
 use Rattle.journal_store.specs.Gates.{batch_size}
-use Rattle.journal_store.specs.Ledger.{Appends, Keeps}
+use Rattle.journal_store.specs.Ledger.{Appends, Keeps, settled}
 use Rattle.journal_store.specs.declared.batch.TheConstants.{BATCH}
 use Rattle.journal_store.specs.declared.gate.Gate.{Gate}
 use Rattle.journal_store.specs.declared.gate.Gate.TheVariants.{Missing, Closed, Staged}
@@ -49,15 +50,23 @@ fits_more number moment capacity durable pending more gate end room entry fits f
       room_is = fits.room_is;
     }
 
+-- as many are durable as before
+settled-more : (drawn : List Entry) (old new : Journal) (entry : Entry) → Appends old entry new → settled (drawn ++ entry ∷ []) new ≡ settled drawn old
+settled-more drawn old new entry appends = omega (arith, length-append drawn (entry ∷ []), ap length appends.pending, length-append old.pending.items (entry ∷ []))
+
 -- and the history stays legal
 pub keeps_more : (start : Start) (drawn : List Entry) (old new : Journal) (entry : Entry) → MayFollow old.last_number old.last_moment entry → Appends old entry new → Keeps start drawn old
     → Keeps start (drawn ++ entry ∷ []) new
-keeps_more start drawn old new entry follows appends keeps = record {
-  legal = legal-more start.last_number start.last_moment drawn entry keeps.legal (record { next = follows.next ∙ ap (λ n. n + 1) keeps.number; latest = cc (follows.latest, keeps.moment) });
-  number = appends.number ∙ sym (last_number-more start.last_number drawn entry);
-  moment = appends.moment ∙ sym (last_moment-more start.last_moment drawn entry);
-  capacity = appends.capacity ∙ keeps.capacity;
-  done = keeps.done;
-  parts = ap (λ (l : List Entry). keeps.done ++ l) appends.pending ∙ sym (append_assoc keeps.done old.pending.items (entry ∷ [])) ∙ ap (λ (l : List Entry). l ++ entry ∷ []) keeps.parts;
-  durable = appends.durable ∙ keeps.durable;
-}
+keeps_more start drawn old new entry follows appends keeps =
+    let same : settled (drawn ++ entry ∷ []) new ≡ settled drawn old = settled-more drawn old new entry appends in
+    record {
+      legal = legal-more start.last_number start.last_moment drawn entry keeps.legal (record { next = follows.next ∙ ap (λ n. n + 1) keeps.number; latest = cc (follows.latest, keeps.moment) });
+      number = appends.number ∙ sym (last_number-more start.last_number drawn entry);
+      moment = appends.moment ∙ sym (last_moment-more start.last_moment drawn entry);
+      capacity = appends.capacity ∙ keeps.capacity;
+      durable = appends.durable ∙ keeps.durable ∙ ap (λ n. start.count + n) (sym same);
+      pending = appends.pending
+          ∙ ap (λ (l : List Entry). l ++ entry ∷ []) keeps.pending
+          ∙ sym (drop-append-le (settled drawn old) drawn (entry ∷ []) (omega arith))
+          ∙ ap (λ (n : ℕ). drop n (drawn ++ entry ∷ [])) (sym same);
+    }

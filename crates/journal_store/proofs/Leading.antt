@@ -7,8 +7,8 @@ use Rattle.disk_port.specs.Story.{Story, Lawful, Told}
 use Rattle.disk_port.proofs.Moments.{started, joined, weakened, now-since, seen-now}
 use Rattle.journal_store.specs.Batches.{IsBatch, open_batch, open_batches, entries_of, HoldsFirst}
 use Rattle.journal_store.specs.Gates.{AtGate, Begins, IsFit, IsUnstaged, Rests, Stages, behind, batch_size, standing}
-use Rattle.journal_store.specs.Ledger.{Settles}
-use Rattle.journal_store.specs.Standing.{TornFrom, Stands, CanFlush, Leads, settled}
+use Rattle.journal_store.specs.Ledger.{Settles, settled}
+use Rattle.journal_store.specs.Standing.{TornFrom, Stands, CanFlush, Leads}
 use Rattle.journal_store.specs.declared.batch.TheConstants.{BATCH}
 use Rattle.journal_store.specs.declared.gate.Gate.{Gate}
 use Rattle.journal_store.specs.declared.gate.Gate.TheVariants.{Closed, Staged}

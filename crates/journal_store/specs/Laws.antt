@@ -4,8 +4,8 @@ use Rattle.disk_port.specs.Moments.{EachNow, EachSince}
 use Rattle.disk_port.specs.Story.{Story}
 use Rattle.journal_store.specs.Batches.{HoldsFirst}
 use Rattle.journal_store.specs.Gates.{AtGate, IsFit}
-use Rattle.journal_store.specs.Ledger.{IsNew, SameEntries, SamePlace, Appends}
-use Rattle.journal_store.specs.Standing.{Stands, settled}
+use Rattle.journal_store.specs.Ledger.{IsNew, SameEntries, SamePlace, Appends, settled}
+use Rattle.journal_store.specs.Standing.{Stands}
 use Rattle.journal_store.specs.declared.journal.Journal.{Journal}
 use Rattle.journal_store.specs.declared.start.Start.{Start}
 use Rattle.request_text.specs.declared.entry.Entry.{Entry}

@@ -59,6 +59,7 @@ pub record Appends (old : Journal) (entry : Entry) (new : Journal) : Type 0 wher
   pub capacity : new.capacity ≡ old.capacity
   pub durable : new.durable ≡ old.durable
   pub pending : new.pending.items ≡ old.pending.items ++ entry ∷ []
+  pub spare : spare new + 1 ≡ spare old
 
 -- what comes of a request that asks for its number
 abbrev pub Draws : Journal → Prepared → Journal → Draw → Type 0
@@ -88,15 +89,18 @@ abbrev pub Flushes : {E : Type 0} → Journal → Journal → Result ℕ E → T
 Flushes old new (Ok answer) = Settles (batch_size old.gate (length old.pending.items)) old new × (answer ≡ new.durable)
 Flushes old new (Err error) = Settles 0 old new
 
+-- how many of the entries that were drawn are durable
+abbrev pub settled : List Entry → Journal → ℕ
+settled drawn journal = length drawn - length journal.pending.items
+
 -- A journal goes on from a start, and these are the entries that were drawn since.
 pub record Keeps (start : Start) (drawn : List Entry) (journal : Journal) : Type 0 where
   pub legal : IsLegalFrom start.last_number start.last_moment drawn
   pub number : journal.last_number ≡ last_number start.last_number drawn
   pub moment : journal.last_moment ≡ last_moment start.last_moment drawn
   pub capacity : journal.capacity ≡ start.capacity
-  pub done : List Entry
-  pub parts : done ++ journal.pending.items ≡ drawn
-  pub durable : journal.durable ≡ start.count + length done
+  pub durable : journal.durable ≡ start.count + settled drawn journal
+  pub pending : journal.pending.items ≡ drop (settled drawn journal) drawn
 
 -- where a journal can start
 pub record CanStart (start : Start) : Type 0 where

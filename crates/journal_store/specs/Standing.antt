@@ -1,16 +1,13 @@
 -- How a disk stands to its journal.
-use Rattle.std.specs.Prelude.{◌≡◌, ℕ, ◌-◌, List, ◌++◌, length, All}
+use Rattle.std.specs.Prelude.{◌≡◌, ℕ, List, ◌++◌, length, All}
 use Rattle.disk_port.specs.Contents.{Torn}
 use Rattle.disk_port.specs.Moments.{EachNow, EachSince}
 use Rattle.disk_port.specs.Story.{Story}
 use Rattle.journal_store.specs.Batches.{IsBatch, open_batches, entries_of, HoldsFirst}
 use Rattle.journal_store.specs.Gates.{AtGate, Begins, IsFit}
+use Rattle.journal_store.specs.Ledger.{settled}
 use Rattle.journal_store.specs.declared.journal.Journal.{Journal}
 use Rattle.request_text.specs.declared.entry.Entry.{Entry}
-
--- how many of the entries that were drawn are durable
-abbrev pub settled : List Entry → Journal → ℕ
-settled drawn journal = length drawn - length journal.pending.items
 
 module _ {D : Type 0} (story : Story D) where
   -- an image from before, or what a crash may leave of it if so many bytes are written from this place on
