@@ -3,12 +3,12 @@ use Rattle.std.proofs.Common.{◌≡◌, ℕ, ◌+◌, ◌-◌, ◌*◌, ◌≤�
 use Rattle.std.proofs.lemmas.List.Elements.{All-push}
 use Rattle.disk_port.specs.Contents.{written, Torn}
 use Rattle.disk_port.specs.Moments.{EachNow, EachSince}
-use Rattle.disk_port.specs.Story.{Story, Lawful, Told}
+use Rattle.disk_port.specs.Story.{Story, Lawful}
 use Rattle.disk_port.proofs.Moments.{started, joined, weakened, now-since, seen-now}
 use Rattle.journal_store.specs.Batches.{IsBatch, open_batch, open_batches, entries_of, HoldsFirst}
 use Rattle.journal_store.specs.Gates.{AtGate, Begins, IsFit, IsUnstaged, Rests, Stages, behind, batch_size, standing}
 use Rattle.journal_store.specs.Ledger.{Settles, settled}
-use Rattle.journal_store.specs.Standing.{TornFrom, Stands, CanFlush, Leads}
+use Rattle.journal_store.specs.Standing.{TornFrom, Stands, CanFlush, Leads, Carries}
 use Rattle.journal_store.specs.declared.batch.TheConstants.{BATCH}
 use Rattle.journal_store.specs.declared.gate.Gate.{Gate}
 use Rattle.journal_store.specs.declared.gate.Gate.TheVariants.{Closed, Staged}
@@ -67,7 +67,7 @@ module _ {D : Type 0} (story : Story D) where
 
   -- it can be flushed again
   pub can_again : (old new : Journal) (before after : D) → (story.tells before → CanFlush story old before)
-      → Told story before after ((front : List ℕ) (drawn : List Entry) → Stands story front drawn old before → Leads story front drawn old new before after) → story.tells after → CanFlush story new after
+      → Carries story old new before after → story.tells after → CanFlush story new after
   can_again old new before after can leads told =
       let was = can (leads told).0 in
       record { front = was.front; drawn = was.drawn; stands = ((leads told).1 was.front was.drawn was.stands).stands }
@@ -174,9 +174,9 @@ module _ {D : Type 0} (story : Story D) where
       (λ d c at_gate torn. subst (λ (g : Gate). AtGate g pending text c) (sym staged) (gate-torn text (behind entries) d c old.end stands.end_is (as_staged d at_gate) torn)))
 
   -- both of a flush's calls
-  pub told-on : (old mid new : Journal) (before between after : D) → Settles 0 old mid → Told story before between ((front : List ℕ) (drawn : List Entry) → Stands story front drawn old before → Leads story front drawn old mid before between)
-      → Told story between after ((front : List ℕ) (drawn : List Entry) → Stands story front drawn mid between → Leads story front drawn mid new between after)
-      → Told story before after ((front : List ℕ) (drawn : List Entry) → Stands story front drawn old before → Leads story front drawn old new before after)
+  pub told-on : (old mid new : Journal) (before between after : D) → Settles 0 old mid → Carries story old mid before between
+      → Carries story mid new between after
+      → Carries story old new before after
   told-on old mid new before between after same first second told =
       let later = second told in
       let sooner = first later.0 in (

@@ -2,7 +2,7 @@
 use Rattle.std.specs.Prelude.{◌≡◌, ℕ, List, ◌++◌, length, All}
 use Rattle.disk_port.specs.Contents.{Torn}
 use Rattle.disk_port.specs.Moments.{EachNow, EachSince}
-use Rattle.disk_port.specs.Story.{Story}
+use Rattle.disk_port.specs.Story.{Story, Told}
 use Rattle.journal_store.specs.Batches.{IsBatch, open_batches, entries_of, HoldsFirst}
 use Rattle.journal_store.specs.Gates.{AtGate, Begins, IsFit}
 use Rattle.journal_store.specs.Ledger.{settled}
@@ -38,3 +38,7 @@ module _ {D : Type 0} (story : Story D) where
     pub fit : IsFit old.gate → IsFit new.gate
     pub since : IsFit old.gate → EachSince story before after (HoldsFirst front drawn (settled drawn old))
     pub now : IsFit new.gate → EachNow story after (HoldsFirst front drawn (settled drawn new))
+
+  -- so it is whatever front the disk holds and whatever was drawn, if it tells
+  abbrev pub Carries : Journal → Journal → D → D → Type 0
+  Carries old new before after = Told story before after ((front : List ℕ) (drawn : List Entry) → Stands front drawn old before → Leads front drawn old new before after)

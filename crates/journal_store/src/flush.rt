@@ -7,11 +7,10 @@ use disk_port::Disk;
 use ports::Failed;
 
 impl Journal {
-    ghost use Rattle.std.specs.Prelude.{◌≡◌, ◌≢◌, ℕ, ◌+◌, ◌*◌, ◌≤◌, List, [], length, IfOk, IsOk, OnOk, OnErr};
-    ghost use Rattle.disk_port.specs.Story.{Told};
+    ghost use Rattle.std.specs.Prelude.{◌≡◌, ◌≢◌, ◌+◌, ◌*◌, ◌≤◌, List, [], length, IfOk, IsOk, OnOk, OnErr};
     ghost use Rattle.journal_store.specs.Gates.{IsUnstaged, batch_size};
     ghost use Rattle.journal_store.specs.Ledger.{Flushes, Keeps, Settles};
-    ghost use Rattle.journal_store.specs.Standing.{CanFlush, Leads, Stands};
+    ghost use Rattle.journal_store.specs.Standing.{CanFlush, Carries};
     ghost use Rattle.journal_store.specs.declared.gate.Gate.TheVariants.{Closed, Staged};
     ghost use Rattle.journal_store.specs.declared.start.Start.{Start};
     ghost use Rattle.ports.specs.Causes.{HasCause};
@@ -26,8 +25,7 @@ impl Journal {
         ensures idle { self.old.pending.items ≡ [] → (disk.new ≡ disk.old) × (self.new ≡ self.old) × IsOk result }
         ensures closed { OnOk result (self.old.pending.items ≢ [] → self.new.gate ≡ Closed) }
         ensures keeps { (start : Start) (drawn : List Entry) → Keeps start drawn self.old → Keeps start drawn self.new }
-        ensures leads { Told D.story disk.old disk.new ((front : List ℕ) (drawn : List Entry)
-            → Stands D.story front drawn self.old disk.old → Leads D.story front drawn self.old self.new disk.old disk.new) }
+        ensures leads { Carries D.story self.old self.new disk.old disk.new }
         ensures again { D.story.tells disk.new → CanFlush D.story self.new disk.new }
         ensures calls { D.calls disk.new ≤ D.calls disk.old + 4 }
         ensures cause { HasCause (D.faults disk.old) (D.faults disk.new) result }
@@ -47,8 +45,7 @@ impl Journal {
         ensures settles { Settles 0 self.old self.new }
         ensures count { IfOk result (λ count. count ≡ batch_size self.old.gate (length self.old.pending.items)) }
         ensures staged { IfOk result (λ count. self.new.gate ≡ Staged count) }
-        ensures leads { Told D.story disk.old disk.new ((front : List ℕ) (drawn : List Entry)
-            → Stands D.story front drawn self.old disk.old → Leads D.story front drawn self.old self.new disk.old disk.new) }
+        ensures leads { Carries D.story self.old self.new disk.old disk.new }
         ensures again { D.story.tells disk.new → CanFlush D.story self.new disk.new }
         ensures calls { D.calls disk.new ≤ D.calls disk.old + 2 }
         ensures cause { HasCause (D.faults disk.old) (D.faults disk.new) result }
@@ -67,8 +64,7 @@ impl Journal {
         ensures settles { Settles 0 self.old self.new }
         ensures count { IfOk result (λ count. count ≡ batch_size self.old.gate (length self.old.pending.items)) }
         ensures staged { IfOk result (λ count. self.new.gate ≡ Staged count) }
-        ensures leads { Told D.story disk.old disk.new ((front : List ℕ) (drawn : List Entry)
-            → Stands D.story front drawn self.old disk.old → Leads D.story front drawn self.old self.new disk.old disk.new) }
+        ensures leads { Carries D.story self.old self.new disk.old disk.new }
         ensures calls { D.calls disk.new ≤ D.calls disk.old + 2 }
         ensures cause { HasCause (D.faults disk.old) (D.faults disk.new) result }
     {
@@ -87,8 +83,7 @@ impl Journal {
         ensures ok { OnOk result (Settles count self.old self.new) }
         ensures err { OnErr result (Settles 0 self.old self.new) }
         ensures closed { OnOk result (self.new.gate ≡ Closed) }
-        ensures leads { Told D.story disk.old disk.new ((front : List ℕ) (drawn : List Entry)
-            → Stands D.story front drawn self.old disk.old → Leads D.story front drawn self.old self.new disk.old disk.new) }
+        ensures leads { Carries D.story self.old self.new disk.old disk.new }
         ensures calls { D.calls disk.new ≤ D.calls disk.old + 2 }
         ensures cause { HasCause (D.faults disk.old) (D.faults disk.new) result }
     {
