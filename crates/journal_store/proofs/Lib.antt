@@ -3,6 +3,7 @@ pub mod Calls
 pub mod Contents
 pub mod Holding
 pub mod Going
+pub mod Joining
 pub mod Leading
 pub mod Settling
 pub mod Sizes

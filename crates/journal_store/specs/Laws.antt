@@ -1,14 +1,23 @@
 -- How a disk goes on to stand to its journal, and what its images go on to hold.
-use Rattle.std.specs.Prelude.{◌≡◌, ℕ, ◌≤◌, List, [], ◌∷◌, ◌++◌, length}
+use Rattle.std.specs.Prelude.{◌≡◌, ℕ, ◌+◌, ◌<◌, ◌≤◌, List, [], ◌∷◌, ◌++◌, length, take}
 use Rattle.disk_port.specs.Moments.{EachNow, EachSince}
 use Rattle.disk_port.specs.Story.{Story}
-use Rattle.journal_store.specs.Batches.{HoldsFirst}
-use Rattle.journal_store.specs.Gates.{AtGate, IsFit}
+use Rattle.journal_store.specs.Batches.{Batches, HoldsFirst}
+use Rattle.journal_store.specs.Gates.{AtGate, IsFit, Rests}
 use Rattle.journal_store.specs.Ledger.{IsNew, SameEntries, SamePlace, Appends, settled}
 use Rattle.journal_store.specs.Standing.{Stands}
 use Rattle.journal_store.specs.declared.journal.Journal.{Journal}
 use Rattle.journal_store.specs.declared.start.Start.{Start}
 use Rattle.request_text.specs.declared.entry.Entry.{Entry}
+
+-- What batches that were found and batches that were written since make together. The found ones stand from a place on, up to
+-- `end`, and a journal goes on from there.
+pub record BatchesJoin : Type 0 where
+  -- behind what was found stands the closed gate, if it isn't missing
+  pub found : (content : List ℕ) (from : ℕ) (entries : List Entry) (end : ℕ) → Batches content from entries end → end < length content → Rests (take end content) content
+  -- a content that goes on from there holds what was found, and then what it holds of the entries that were drawn
+  pub joined : (seen content : List ℕ) (from end : ℕ) (entries drawn : List Entry) (least : ℕ) → Batches seen from entries end → end ≤ length seen → HoldsFirst (take end seen) drawn least content
+      → HoldsFirst (take from seen) (entries ++ drawn) (length entries + least) content
 
 module _ {D : Type 0} (story : Story D) where
   pub record JournalsStand : Type 0 where

@@ -15,5 +15,5 @@ mod tests;
 pub use batch::BATCH;
 pub use draws::{Draw, Prepared};
 pub use journal::Journal;
-pub use laws::journals_stand;
+pub use laws::{batches_join, journals_stand};
 pub use start::{LAST_START, Start};

@@ -4,7 +4,7 @@ ghost use Rattle.disk_port.specs.Memory.{memory_story};
 ghost use Rattle.journal_store.specs.Ledger.{CanStart, IsPrepared};
 ghost use Rattle.journal_store.specs.Standing.{CanFlush};
 
-use crate::{Draw, Journal, Prepared, Start, journals_stand};
+use crate::{Draw, Journal, Prepared, Start, batches_join, journals_stand};
 use base_ids::{LAST_NUMBER, Player};
 use disk_port::MemoryDisk;
 use ports::{Failed, LATEST};
@@ -232,5 +232,6 @@ fn a_journal_can_be_handed_to_threads(rt: HostRuntime) -> Result<(), Fail> {
     journal.reserve()?;
     assert!(rt; journal.spare() >= 1);
     journals_stand::<MemoryDisk>();
+    batches_join();
     Ok(())
 }
