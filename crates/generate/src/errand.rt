@@ -107,14 +107,7 @@ fn send(home: Home, mission: Mission, ships: Ships, cargo: Amounts, draws: &mut 
 {
     let target = Home::next(draws);
     let setting = SpeedSetting { p: 10 };
-    Request::Send(
-        home.coord(),
-        target.coord(),
-        mission,
-        setting,
-        ships,
-        cargo,
-    )
+    Request::Send(home.coord(), target.coord(), mission, setting, ships, cargo)
 }
 
 /// A building, by the next word.

@@ -39,7 +39,12 @@ const UNITS: [(Kind, u32); 4] = [
 ];
 
 /// Appends the founding part of a text. It fails only if memory runs out.
-pub fn push_founding(alloc: Global, out: &mut Bytes, seed: u64, lines: u32) -> Result<(), AllocError>
+pub fn push_founding(
+    alloc: Global,
+    out: &mut Bytes,
+    seed: u64,
+    lines: u32,
+) -> Result<(), AllocError>
     ensures { OnOk result (out.new ≡ out.old ++ founded seed lines) }
 {
     push_universe(alloc, out, seed, lines)?;
@@ -115,17 +120,28 @@ fn push_homes(alloc: Global, out: &mut Bytes, player: u32) -> Result<(), AllocEr
     ensures { OnOk result (out.new ≡ out.old ++ homes_lines player) }
 {
     let [warm, cold] = POSITIONS;
-    push_home(alloc, out, Home { player, position: warm }, 20)?;
-    push_home(alloc, out, Home { player, position: cold }, 0)
+    push_home(
+        alloc,
+        out,
+        Home {
+            player,
+            position: warm,
+        },
+        20,
+    )?;
+    push_home(
+        alloc,
+        out,
+        Home {
+            player,
+            position: cold,
+        },
+        0,
+    )
 }
 
 /// Appends a planet with all that it has.
-fn push_home(
-    alloc: Global,
-    out: &mut Bytes,
-    home: Home,
-    temperature: u32,
-) -> Result<(), AllocError>
+fn push_home(alloc: Global, out: &mut Bytes, home: Home, temperature: u32) -> Result<(), AllocError>
     ensures { OnOk result (out.new ≡ out.old ++ home_lines (home_text home.player home.position) home.player temperature) }
 {
     let at = format!(in alloc; "{}", home.coord())?;

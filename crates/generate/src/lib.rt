@@ -5,8 +5,8 @@ mod errand;
 mod head;
 mod home;
 mod script;
-mod writing;
 #[cfg(test)]
 mod tests;
+mod writing;
 
 pub use writing::text;

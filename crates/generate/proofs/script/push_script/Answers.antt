@@ -9,7 +9,7 @@ pub lines-preserved : goal.lines-preserved
 lines-preserved c =
     record {
       lines = script_more _ _ _ _ _ _ c.lines.invariant.stands c.lines.invariant.lines
-              (c.in_ok-push_asked.ensures ∙ ap (λ text. c.lines.out ++ text) (asked_is _ _ _ _ _ c.next-asked.ensures.reading c.next-asked.ensures.player c.next-asked.ensures.words));
+          (c.in_ok-push_asked.ensures ∙ ap (λ text. c.lines.out ++ text) (asked_is _ _ _ _ _ c.next-asked.ensures.reading c.next-asked.ensures.player c.next-asked.ensures.words));
       stands = turn_more _ _ _ _ c.lines.invariant.stands c.next-asked.ensures.moves;
       early = omega (arith, c.next-asked.ensures.late, c.lines.invariant.early);
     }
