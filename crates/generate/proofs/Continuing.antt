@@ -1,5 +1,5 @@
 -- Texts that are written piece by piece: one piece more.
-use Rattle.std.proofs.Common.{◌≡◌, ℕ, suc, zero, ◌+◌, ◌<◌, List, [], ◌∷◌, ◌++◌, length, take, get_or, refl, ap, sym, ◌∙◌, arith, append_assoc, add-one, append-nil}
+use Rattle.std.proofs.Common.{◌≡◌, ℕ, suc, zero, ◌+◌, ◌<◌, List, [], ◌∷◌, ◌++◌, length, take, get_or, ap, sym, ◌∙◌, arith, append_assoc, add-one, append-nil}
 use Rattle.std.specs.Fmt.{decimal}
 use Rattle.catalog.specs.Kinds.{kind_word}
 use Rattle.catalog.specs.declared.kind.Kind.{Kind}

@@ -3,7 +3,6 @@
 use Rattle.std.specs.Prelude.{ℕ, zero, suc, ◌+◌, List, ◌∷◌, get_or}
 use Rattle.std.specs.Fmt.{decimal}
 use Rattle.draws.specs.Draws.{after, stream_start}
-use Rattle.rand_pcg.specs.Lcg.{Lcg}
 use Rattle.reply_text.specs.Words.{line}
 use Rattle.generate.specs.Drawing.{drawn}
 use Rattle.generate.specs.Errands.{errand_words, errands, own_draws}
