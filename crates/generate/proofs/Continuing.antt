@@ -7,9 +7,7 @@ use Rattle.reply_text.specs.Words.{line}
 use Rattle.generate.specs.Counting.{each}
 use Rattle.generate.specs.Founded.{kind_lines}
 use Rattle.generate.specs.Generated.{script}
-use Rattle.generate.specs.Homes.{drawn_player}
-use Rattle.draws.specs.Draws.{after}
-use Rattle.generate.specs.Turns.{next_reading, next_request, next_turn, turn_after, turn_line}
+use Rattle.generate.specs.Turns.{next_turn, turn_after, turn_line}
 use Rattle.generate.specs.declared.script.Turn.{Turn}
 
 -- a piece more behind a front
@@ -27,14 +25,6 @@ each_more text count first old new before last =
 pub each_none : (text : ℕ → List ℕ) (out : List ℕ) → out ≡ out ++ each text 0
 unfolding each
 each_none text out = sym (append-nil out)
-
--- a line of requests by what it asks
-pub asked_is : (number : ℕ) (turn : Turn) (reading player : ℕ) (words : List (List ℕ)) → reading ≡ next_reading turn → player ≡ drawn_player (after 1 turn.draws) → words ≡ next_request number turn
-    → line ((64 ∷ decimal reading) ∷ decimal player ∷ words) ≡ turn_line number turn
-asked_is number turn reading player words at who what =
-    ap (λ n. line ((64 ∷ decimal n) ∷ decimal player ∷ words)) at
-    ∙ ap (λ n. line ((64 ∷ decimal (next_reading turn)) ∷ decimal n ∷ words)) who
-    ∙ ap (λ text. line ((64 ∷ decimal (next_reading turn)) ∷ decimal (drawn_player (after 1 turn.draws)) ∷ text)) what
 
 -- one line of requests more
 pub script_more : (seed count : ℕ) (turn : Turn) (first old new : List ℕ) → turn ≡ turn_after seed count → old ≡ first ++ script seed count → new ≡ old ++ turn_line (count + 1) turn → new ≡ first ++ script seed (count + 1)

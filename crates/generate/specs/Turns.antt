@@ -24,10 +24,12 @@ abbrev pub next_request : ℕ → Turn → List (List ℕ)
 next_request number turn =
     errand_words (next_errand turn) number (drawn_player (after 1 turn.draws)) (drawn_position (after 1 turn.draws)) (after 4 turn.draws)
 
--- the line of this number: `@R K REQUEST`
+-- the words of the line of this number, and the line: `@R K REQUEST`
+abbrev pub turn_words : ℕ → Turn → List (List ℕ)
+turn_words number turn = (64 ∷ decimal (next_reading turn)) ∷ decimal (drawn_player (after 1 turn.draws)) ∷ next_request number turn
+
 abbrev pub turn_line : ℕ → Turn → List ℕ
-turn_line number turn =
-    line ((64 ∷ decimal (next_reading turn)) ∷ decimal (drawn_player (after 1 turn.draws)) ∷ next_request number turn)
+turn_line number turn = line (turn_words number turn)
 
 -- where the generator stands after it
 abbrev pub next_turn : Turn → Turn

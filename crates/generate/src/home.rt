@@ -2,7 +2,7 @@ ghost use Rattle.std.specs.Prelude.{◌≤◌};
 ghost use Rattle.base_ids.specs.declared.numbers.TheConstants.{LAST_POSITION};
 ghost use Rattle.generate.specs.declared.home.TheConstants.{PLAYERS};
 
-use base_ids::{Coord, System};
+use base_ids::{Coord, Player, System};
 use draws::Draws;
 
 /// How many players there are.
@@ -38,6 +38,13 @@ impl Home {
         let player = 1 + draws.below(PLAYERS);
         let position = POSITIONS[draws.below(2) as usize];
         Home { player, position }
+    }
+
+    /// Whose it is.
+    pub fn owner(self) -> Player
+        ensures { result.k ≡ self.player }
+    {
+        Player { k: self.player }
     }
 
     /// Where it stands.
