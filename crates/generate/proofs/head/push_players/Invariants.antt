@@ -1,0 +1,8 @@
+-- The lines of the players so far have been written.
+use Rattle.std.proofs.Common.{◌≡◌, ◌++◌}
+use Rattle.generate.specs.Counting.{each}
+use Rattle.generate.specs.Founded.{player_line}
+use Rattle.generate.proofs.head.push_players.Given as goal
+
+abbrev pub invariant-players : goal.invariant-players
+invariant-players l = l.out ≡ l.initial.out ++ each player_line l.before
