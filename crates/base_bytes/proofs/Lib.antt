@@ -5,4 +5,5 @@ pub mod Once
 pub mod Flying
 pub mod Seen
 pub mod Bases
+pub mod Fresh
 pub mod Limited

@@ -15,9 +15,9 @@ use Rattle.catalog.specs.declared.mission.Mission.{Mission}
 use Rattle.catalog.specs.declared.mission.Mission.TheVariants.{Attack}
 use Rattle.catalog.specs.declared.ships.TheConstants.{SHIPS}
 use Rattle.flight.specs.Freight.{capacity_of}
-use Rattle.planet_cell.specs.Planet.{batches_of, buildings_of}
+use Rattle.planet_cell.specs.Planet.{batches_of, buildings_of, fields_of, queue_of}
 use Rattle.planet_cell.specs.declared.planet.Planet.{Planet}
-use Rattle.reply_text.specs.declared.units.Units.{Units}
+use Rattle.tick_model.specs.Limits.{cargo_units, KeepsLevels, KeepsTechs}
 use Rattle.tick_model.specs.Lines.{own_fleets, slots_of}
 use Rattle.tick_model.specs.Rules.{same_order}
 use Rattle.tick_model.specs.Sending.{suits}
@@ -63,10 +63,6 @@ abbrev pub ArriveTogether : Fleet → Fleet → Type 0
 ArriveTogether first second =
     first.outbound ≡ true → second.outbound ≡ true → first.group ≡ second.group → (first.target ≡ second.target) × (first.second ≡ second.second)
 
--- the units of a cargo
-abbrev pub cargo_units : Units → ℕ
-cargo_units cargo = cargo.metal + cargo.crystal + cargo.deuterium
-
 -- A fleet has the number of a request, and flies in a group. It flies from a planet of its owner to another planet, of the player whom it
 -- names; its mission suits that player and its ships. It has ships, and no more cargo than they carry. It was sent by the moment,
 -- and lands past it, before second 2^42.
@@ -86,8 +82,9 @@ pub record IsSoundFleet (base : Base) (fleet : Fleet) : Type 0 where
 
 -- Accounts, planets and fleets rise strictly by their names. Each planet is an account's, and counts units of all kinds; each account lists
 -- the places of its planets, counts its units, and researches on its planets. What runs comes due after the moment, and each item
--- of a queue has the number of a request, no two of one class the same. Each fleet is sound. Those that fly out in one group arrive
--- together, and are no more than a group may have; and no account has more fleets than it may have.
+-- of a queue has the number of a request, no two of one class the same. Levels keep their caps, and planets their fields and one dome
+-- of a kind, even if all is built that is queued. Each fleet is sound. Those that fly out in one group arrive together, and are no
+-- more than a group may have; and no account has more fleets than it may have.
 pub record IsSound (base : Base) : Type 0 where
   pub accounts_rise : AllPairs (λ first second. player_before first.player second.player ≡ true) base.accounts.items
   pub planets_rise : AllPairs (λ first second. coord_before first.at second.at ≡ true) base.planets.items
@@ -102,6 +99,8 @@ pub record IsSound (base : Base) : Type 0 where
   pub researched : All (λ account. RunsAfter base.moment (research_of account)) base.accounts.items
   pub drawn : All (λ item. (1 ≤ item.number) × (item.number ≤ base.number)) (all_items base.accounts.items base.planets.items)
   pub distinct : AllPairs (λ first second. same_order first second ≡ false) (all_items base.accounts.items base.planets.items)
+  pub levelled : All (λ planet. KeepsLevels (fields_of planet) (queue_of planet)) base.planets.items
+  pub learned : All (λ account. KeepsTechs (account_fields account) (research_of account)) base.accounts.items
   pub flying : All (IsSoundFleet base) base.fleets
   pub together : AllPairs ArriveTogether base.fleets
   pub few : (group : ℕ) → length (outbound_in group base.fleets) ≤ MOST_IN_GROUP

@@ -15,7 +15,7 @@ ghost use Rattle.tick_model.specs.World.{base_of};
 
 /// A sound base stands for a universe that is a base of histories. Of each of its accounts and planets the universe shows what
 /// the base has of it, and it shows nothing of any other cell. The fleets that it shows of a cell rise strictly by number, and it
-/// keeps the limits on queues and units. It does nothing: the laws are its contract.
+/// keeps the limits on queues, units, levels, fields, domes, loads and fleets. It does nothing: the laws are its contract.
 pub fn stands_for_a_universe()
     ensures base { (base : Base) → IsSound base → IsBase (game (setting_of base)) (base_of (universe_of base)) }
     ensures accounts { (base : Base) (account : Account) → IsSound base → Contains base.accounts.items account

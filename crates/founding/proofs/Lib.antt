@@ -15,3 +15,4 @@ pub mod Ending
 pub mod Listed
 pub mod Soundness
 pub mod Hearing
+pub mod Bounded

@@ -6,9 +6,10 @@ use Rattle.std.specs.List.{list_any, Contains}
 use Rattle.std.specs.Map.{keys_of, lookup}
 use Rattle.std.proofs.lemmas.Bool.Decides.{nat_tests}
 use Rattle.std.proofs.lemmas.List.Elements.{Contains-get_or}
-use Rattle.account_cell.specs.Account.{research_item, research_of}
+use Rattle.account_cell.specs.Account.{account_fields, research_item, research_of}
 use Rattle.account_cell.specs.declared.account.Account.{Account}
 use Rattle.base_bytes.proofs.Among.{has-place, in-map, is-among, pairs-first, pairs-later}
+use Rattle.base_bytes.proofs.Fresh.{fresh-levels, fresh-techs}
 use Rattle.base_bytes.proofs.Owned.{player-one, player-same}
 use Rattle.base_bytes.specs.Base.{all_items}
 use Rattle.base_bytes.specs.Sound.{outbound_in, places_owned, planets_owned, units_counted, units_owned, ArriveTogether, HasSlots, IsSound, IsSoundFleet, RunsAfter}
@@ -18,12 +19,16 @@ use Rattle.base_ids.specs.Cells.{same_player}
 use Rattle.base_ids.specs.Order.{coord_before, player_before}
 use Rattle.base_ids.specs.declared.player.Player.{Player}
 use Rattle.catalog.specs.declared.classes.TheConstants.{UNIT_KINDS}
-use Rattle.planet_cell.specs.Planet.{batch_item_of, batches_of, buildings_of, item_of}
+use Rattle.catalog.specs.declared.kind.Kind.{Kind}
+use Rattle.planet_cell.specs.Planet.{batch_item_of, batches_of, buildings_of, fields_of, item_of, queue_of}
 use Rattle.planet_cell.specs.declared.planet.Planet.{Planet}
 use Rattle.tick_model.proofs.Lists.{in-filter}
+use Rattle.tick_model.specs.Limits.{KeepsLevels, KeepsTechs}
+use Rattle.tick_model.specs.Refusals.{is_dome, used_fields}
 use Rattle.tick_model.specs.Rules.{IsIn, same_order}
 use Rattle.tick_model.specs.Universe.{Fleet, Item}
-use Rattle.founding.specs.DraftMaps.{places_in, places_of, planet_of, player_order, units_in}
+use Rattle.tick_model.specs.Yards.{count_of}
+use Rattle.founding.specs.DraftMaps.{own_of, places_in, places_of, planet_of, player_order, units_in}
 use Rattle.founding.specs.Drafts.{units_of, DraftPlanet}
 use Rattle.founding.specs.Filing.{account_facts, account_sketched, facts_of, facts_sketched, AccountFacts, Facts}
 use Rattle.founding.specs.declared.account_sketch.AccountSketch.{AccountSketch}
@@ -53,6 +58,17 @@ looked_up (e ∷ es) entry rises (inr later) =
 
 no-more : (n : ℕ) → n ≡ n + 0
 no-more n = omega arith
+
+-- a planet whose queues are empty, with fields for its levels, and at most one dome of each kind
+record IsFresh (facts : Facts) : Type 0 where
+  buildings : facts.queue ≡ []
+  yard : facts.yard ≡ []
+  used : used_fields facts.own ≤ facts.own.fields
+  domes : (kind : Kind) → is_dome kind ≡ true → count_of facts.own kind ≤ 1
+
+lone-domes : (sketch : Sketch) (kind : Kind) → is_dome kind ≡ true → count_of (own_of sketch) kind ≤ 1
+unfolding count_of
+lone-domes sketch kind is = sketch.lone_domes.each kind is
 
 -- What a base is made of: the entries of a map of players, the planets that lines have made, and the lists that come of them.
 pub record Comes (entries : List (Player × AccountSketch)) (sketches : List Sketch) (accounts : List Account) (planets : List Planet) : Type 0 where
@@ -100,6 +116,17 @@ module _ (entries : List (Player × AccountSketch)) (sketches : List Sketch) (ac
 
   researched-each : (moment : ℕ) → All (λ account. RunsAfter moment (research_of account)) accounts
   researched-each moment = each-account (λ facts. RunsAfter moment (map (research_item facts.player) facts.queue)) (λ entry is. tt)
+
+  levelled-each : All (λ planet. KeepsLevels (fields_of planet) (queue_of planet)) planets
+  levelled-each k d below =
+      let fresh = each-planet IsFresh (λ sketch is. record { buildings = refl; yard = refl; used = sketch.within_fields; domes = lone-domes sketch }) k d below in
+      fresh-levels (get_or planets k d) fresh.buildings fresh.yard fresh.used fresh.domes
+
+  learned-each : All (λ account. KeepsTechs (account_fields account) (research_of account)) accounts
+  learned-each k d below =
+      let fresh = each-account (λ facts. facts.queue ≡ []) (λ entry is. refl) k d below in
+      let account = get_or accounts k d in
+      fresh-techs account (ap (map (research_item account.player)) fresh)
 
   no-items : all_items accounts planets ≡ []
   no-items = listed-items accounts entries planets sketches comes.accounts_are comes.planets_are
@@ -159,6 +186,8 @@ comes-sound base entries sketches comes rises none =
       researched = researched-each entries sketches accounts planets comes base.moment;
       drawn = drawn-each entries sketches accounts planets comes base.number;
       distinct = distinct-each entries sketches accounts planets comes;
+      levelled = levelled-each entries sketches accounts planets comes;
+      learned = learned-each entries sketches accounts planets comes;
       flying = subst (All (IsSoundFleet base)) (sym none) (λ k d below. absurd (omega (arith, below)));
       together = subst (AllPairs ArriveTogether) (sym none) (λ i j d first below. absurd (omega (arith, below)));
       few = λ group. subst (λ (fleets : List Fleet). length (outbound_in group fleets) ≤ MOST_IN_GROUP) (sym none) (omega arith);

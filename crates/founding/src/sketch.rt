@@ -1,6 +1,7 @@
 ghost use Rattle.std.specs.Prelude.{[], ◌≡◌, ◌≤◌, ◌≤ℤ◌, length, sum};
 ghost use Rattle.catalog.specs.declared.classes.TheConstants.{UNIT_KINDS};
 ghost use Rattle.catalog.specs.declared.ships.TheConstants.{UNITS};
+ghost use Rattle.founding.specs.Bounds.{HasLoneDomes};
 ghost use Rattle.planet_cell.specs.Bounds.{AreWithinCaps};
 ghost use Rattle.rates.specs.Stock.{IsWithinCap};
 ghost use Rattle.rates.specs.declared.works.TheConstants.{COLDEST, HOTTEST};
@@ -15,8 +16,8 @@ use tick_model::Debris;
 
 /// A planet as lines have made it so far: its place, its owner, its maximum temperature in degrees, its fields, the levels of
 /// its buildings in the order of `catalog::BUILDINGS`, its stocks in grains, whether a line has said them, and its units in the
-/// order of `catalog::UNIT_KINDS`, together at most `catalog::UNITS`. A building whose level no line has said has level 0, and of
-/// units that no line has said there are none.
+/// order of `catalog::UNIT_KINDS`, together at most `catalog::UNITS`, and at most one dome of each kind. The levels are together at
+/// most its fields. A building whose level no line has said has level 0, and of units that no line has said there are none.
 #[derive(Clone, Copy, Debug)]
 pub struct Sketch {
     pub at: Coord,
@@ -33,6 +34,8 @@ pub struct Sketch {
     pub ghost within_levels: { AreWithinCaps levels [] },
     pub ghost kinds: { length units ≡ length UNIT_KINDS },
     pub ghost within_units: { sum units ≤ UNITS },
+    pub ghost within_fields: { sum levels ≤ fields },
+    pub ghost lone_domes: { HasLoneDomes units },
 }
 
 impl Sketch {
@@ -78,8 +81,9 @@ impl Sketch {
         self
     }
 
-    /// The planet with the level that a line says.
+    /// The planet with the level that a line says, for which it has fields.
     pub fn raised_to(mut self, level: NewLevel) -> Sketch
+        requires { used_fields (own_of self) + level.level ≤ self.fields }
         ensures { planet_of result ≡ raised_to level (planet_of self) }
     {
         self.levels[place_of(level.building)] = level.level;

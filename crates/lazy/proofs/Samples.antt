@@ -1,25 +1,31 @@
 -- The base of the tests is sound, and a universe that is asked again and again keeps some history.
-use Rattle.std.proofs.Common.{◌≡◌, ℕ, ◌+◌, ◌<◌, ◌≤◌, true, false, List, [], ◌∷◌, ◌++◌, length, map, sum_by, refl, ap, ◌∙◌, sym, subst, arith}
+use Rattle.std.proofs.Common.{◌≡◌, ℕ, zero, suc, ◌+◌, ◌<◌, ◌≤◌, true, false, List, [], ◌∷◌, ◌++◌, length, map, sum_by, refl, ap, ◌∙◌, sym, subst, arith}
 use Rattle.std.proofs.lemmas.List.Elements.{All-cons}
 use Rattle.std.proofs.lemmas.List.Kept.{AllPairs-cons}
-use Rattle.std.specs.Prelude.{All, AllPairs, sum}
+use Rattle.std.proofs.lemmas.List.Sums.{sum_by-cons}
+use Rattle.std.specs.Prelude.{All, AllPairs, slice_index, sum}
 use Rattle.std.specs.List.{Contains}
-use Rattle.account_cell.specs.Account.{research_item, research_of}
+use Rattle.account_cell.specs.Account.{account_fields, research_item, research_of}
 use Rattle.account_cell.specs.declared.account.Account.{Account}
 use Rattle.base_bytes.specs.Base.{all_items}
 use Rattle.base_bytes.specs.Sound.{ArriveTogether, HasSlots, IsSound, IsSoundFleet, RunsAfter, outbound_in, planets_owned, units_counted, units_owned}
 use Rattle.base_bytes.specs.declared.base.TheConstants.{MOST_IN_GROUP}
 use Rattle.base_bytes.specs.declared.base.Base.{Base}
+use Rattle.base_bytes.proofs.Fresh.{fresh-levels, fresh-techs}
 use Rattle.base_bytes.proofs.Owned.{player-same}
 use Rattle.base_ids.specs.Order.{coord_before, player_before}
 use Rattle.base_ids.specs.declared.player.Player.{Player}
+use Rattle.catalog.specs.Kinds.{place_in}
 use Rattle.catalog.specs.declared.classes.TheConstants.{UNIT_KINDS}
-use Rattle.planet_cell.specs.Planet.{batch_item_of, batches_of, buildings_of, item_of}
+use Rattle.catalog.specs.declared.kind.Kind.{Kind}
+use Rattle.planet_cell.specs.Planet.{batch_item_of, batches_of, buildings_of, fields_of, item_of, queue_of}
 use Rattle.planet_cell.specs.declared.planet.Planet.{Planet}
 use Rattle.reply_text.specs.declared.reply.Reply.{Reply}
 use Rattle.request_text.specs.declared.request.Request.{Request}
+use Rattle.tick_model.specs.Limits.{KeepsLevels, KeepsTechs}
 use Rattle.tick_model.specs.Rules.{same_order}
 use Rattle.tick_model.specs.Views.{ships_of, units_left}
+use Rattle.tick_model.specs.Yards.{count_of}
 use Rattle.lazy.specs.Keeping.{Asks, KeepsSome}
 use Rattle.lazy.specs.declared.universe.LazyUniverse.{LazyUniverse}
 
@@ -45,12 +51,27 @@ two-pairs R xs x y is both = subst (AllPairs R) (sym is) (AllPairs-cons R x (y �
 uncounted : (planet : Planet) → sum planet.units ≡ 0 → planet.yard.items ≡ [] → units_counted planet ≡ 0
 uncounted planet none empty = (λ i. none i + units_left (map (batch_item_of planet.at) (empty i)))
 
--- a planet that has no units and builds nothing
+-- a planet that has no levels and no units, and builds nothing
 pub record IsIdle (planet : Planet) : Type 0 where
   pub kinds : length planet.units ≡ length UNIT_KINDS
+  pub levels : sum planet.levels ≡ 0
   pub units : sum planet.units ≡ 0
   pub buildings : planet.buildings.items ≡ []
   pub yard : planet.yard.items ≡ []
+
+count-most : (ns : List ℕ) (place : ℕ) → slice_index ns place ≤ sum ns
+count-most [] place = omega arith
+count-most (n ∷ ns) zero = let all = sum_by-cons (λ (m : ℕ). m) n ns in omega (arith, all)
+count-most (n ∷ ns) (suc place) = let all = sum_by-cons (λ (m : ℕ). m) n ns in let rest = count-most ns place in omega (arith, all, rest)
+
+idle-count : (planet : Planet) (kind : Kind) → sum planet.units ≡ 0 → count_of (fields_of planet) kind ≤ 1
+unfolding count_of
+idle-count planet kind none = let most = count-most planet.units (place_in UNIT_KINDS kind) in omega (arith, most, none)
+
+idle-levels : (planet : Planet) → IsIdle planet → KeepsLevels (fields_of planet) (queue_of planet)
+idle-levels planet idle =
+    let none = idle.levels in
+    fresh-levels planet idle.buildings idle.yard (omega (arith, none)) (λ kind is. idle-count planet kind idle.units)
 
 -- one account that researches nothing, with two idle planets and no fleet
 pub sound_two : (base : Base) (account : Account) (one two : Planet) → base.fleets ≡ [] → base.accounts.items ≡ account ∷ [] → base.planets.items ≡ one ∷ two ∷ []
@@ -84,6 +105,8 @@ sound_two base account one two flown accounts planets listed counted research fi
           (subst (λ items. RunsAfter base.moment (map (research_item account.player) items)) (sym research) tt);
       drawn = none-all (λ item. (1 ≤ item.number) × (item.number ≤ base.number)) (all_items base.accounts.items base.planets.items) empty;
       distinct = none-pairs (λ a b. same_order a b ≡ false) (all_items base.accounts.items base.planets.items) empty;
+      levelled = two-all (λ p. KeepsLevels (fields_of p) (queue_of p)) base.planets.items one two planets (idle-levels one idle) (idle-levels two idle_too);
+      learned = one-all (λ a. KeepsTechs (account_fields a) (research_of a)) base.accounts.items account accounts (fresh-techs account (ap (map (research_item account.player)) research));
       fleets_rise = none-pairs (λ first second. first.number < second.number) base.fleets flown;
       flying = none-all (IsSoundFleet base) base.fleets flown;
       together = none-pairs ArriveTogether base.fleets flown;

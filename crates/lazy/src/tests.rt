@@ -36,6 +36,7 @@ fn planet(alloc: Global, at: Coord, units: u64) -> Planet
     ensures at { result.at ≡ at }
     ensures owner { result.owner.k ≡ 1 }
     ensures kinds { length result.units ≡ length UNIT_KINDS }
+    ensures levels { sum result.levels ≡ 0 }
     ensures units { sum result.units ≡ 0 }
     ensures buildings { result.buildings.items ≡ [] }
     ensures yard { result.yard.items ≡ [] }

@@ -66,7 +66,7 @@ StandsBy state class item later = queue_in state.items item.cell class ≡ item 
 pub has-home : (class : QueueClass) (item : Item) (later : List Item) → footprint (item_due class item later) item.cell ≡ true
 has-home class item later = rw (cell-itself item.cell) refl
 
-shown-home : (setting : Setting) (class : QueueClass) (item : Item) (later : List Item) (state : State)
+pub shown-home : (setting : Setting) (class : QueueClass) (item : Item) (later : List Item) (state : State)
     → owns (seen_of setting (item_due class item later) state) item.cell ≡ state.own item.cell
 shown-home setting class item later state = shown-own setting.cells (footprint (item_due class item later)) state item.cell (has-home class item later)
 
@@ -143,7 +143,7 @@ other-queue setting state class item later cell kind fine stands apart =
     queue-other (owns_after (footprint event) (came_own setting.rules class item later (seen_of setting event state)) state) item.cell cell class kind
     (came_queue setting.rules class item later (seen_of setting event state)) state apart (still-there setting state class item later fine stands)
 
-and-no : (a b : Bool) → b ≡ false → a && b ≡ false
+pub and-no : (a b : Bool) → b ≡ false → a && b ≡ false
 and-no true b is = is
 and-no false b is = refl
 
@@ -162,7 +162,7 @@ or-no : (a b : Bool) → a || b ≡ true → b ≡ false → a ≡ true
 or-no true b is no_b = refl
 or-no false b is no_b = absurd (never b is no_b)
 
-batch-is : (class : QueueClass) (item : Item) → class ≡ Yard → IsBatch class item → IsBatch Yard item
+pub batch-is : (class : QueueClass) (item : Item) → class ≡ Yard → IsBatch class item → IsBatch Yard item
 batch-is class item is batch = subst (λ c. IsBatch c item) is batch
 
 unit-counts : (setting : Setting) (state : State) (item : Item) (later : List Item) → KeepsRules setting state → StandsBy state Yard item later

@@ -66,7 +66,7 @@ ends-level class item later queue level starts = record {
 building-order : (speed second : ℕ) (planet : PlanetFields) (item : Item) → IsOrderOf item (started speed second planet item)
 building-order speed second planet item = record { number = refl; cell = refl; class = refl; kind = refl; place = refl; left = omega arith; some = λ is. is }
 
-buildings-start : (speed second : ℕ) (planet : PlanetFields) (items : List Item)
+pub buildings-start : (speed second : ℕ) (planet : PlanetFields) (items : List Item)
     → Starts second items (starts_first speed second planet items).queue × IsAlike (of_planet planet) (of_planet (starts_first speed second planet items).planet)
 buildings-start speed second planet [] = (starts-none second [], (refl, refl))
 buildings-start speed second planet (item ∷ later) =
@@ -113,7 +113,7 @@ one-research speed second account own (of_planet planet) item later is =
       put-alike (Planet item.place) new own own here (λ x. alike-itself (own x)),
     )
 
-research-starts : (speed second : ℕ) (account : AccountFields) (own : CellId → Own) (items : List Item)
+pub research-starts : (speed second : ℕ) (account : AccountFields) (own : CellId → Own) (items : List Item)
     → Starts second items (starts_first_research speed second account own items).queue × AllAlike own (starts_first_research speed second account own items).own
 research-starts speed second account own [] = (starts-none second [], λ x. alike-itself (own x))
 research-starts speed second account own (item ∷ later) =

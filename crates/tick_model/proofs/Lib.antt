@@ -3,11 +3,13 @@ pub mod Owns
 pub mod Writes
 pub mod Asked
 pub mod Staying
+pub mod Steady
 pub mod Gains
 pub mod Keys
 pub mod Queues
 pub mod Follows
 pub mod Units
+pub mod Raising
 pub mod Ends
 pub mod Counted
 pub mod Effects
@@ -23,7 +25,12 @@ pub mod Outcomes
 pub mod Written
 pub mod Arising
 pub mod RulesKept
+pub mod LimitsOwn
+pub mod Rising
+pub mod LimitsQueues
+pub mod LimitsFleets
 pub mod LimitsKept
+pub mod LimitsOrders
 pub mod LimitsAsked
 pub mod Requesting
 pub mod GameLaws

@@ -1,6 +1,7 @@
 -- Gains and events keep the limits, and so do seconds.
-use Rattle.std.proofs.Common.{◌≡◌, ℕ, zero, suc, ◌≤◌, inl, inr, ◌&&◌, List, [], ◌∷◌, Option, None, Some, length, arith, refl, ap, ◌∙◌, sym}
+use Rattle.std.proofs.Common.{◌≡◌, ℕ, zero, suc, ◌≤◌, inl, inr, ◌&&◌, List, [], ◌∷◌, Option, None, Some, length, arith, refl, ap, ◌∙◌, sym, subst}
 use Rattle.base_ids.specs.Cells.{same_cell}
+use Rattle.base_ids.specs.declared.player.Player.{Player}
 use Rattle.base_ids.specs.declared.cell_id.CellId.{CellId}
 use Rattle.base_ids.specs.declared.cell_id.CellId.TheVariants.{Account}
 use Rattle.catalog.specs.declared.ships.TheConstants.{UNITS}
@@ -9,39 +10,40 @@ use Rattle.laziness.proofs.Bringing.{test}
 use Rattle.tick_model.specs.declared.codes.TheConstants.{MOST_QUEUED}
 use Rattle.tick_model.specs.Events.{Event, item_due, lands, Owes, effect, home, next_event}
 use Rattle.tick_model.specs.Game.{game}
-use Rattle.tick_model.specs.Limits.{KeepsLimits}
+use Rattle.tick_model.specs.Limits.{IsLoaded, KeepsLimits}
+use Rattle.tick_model.specs.Lines.{own_fleets, slots_of}
 use Rattle.tick_model.specs.Production.{advance}
-use Rattle.tick_model.specs.Rules.{KeepsRules}
-use Rattle.tick_model.specs.Universe.{QueueClass, Item, Setting, State, same_class}
+use Rattle.tick_model.specs.Rules.{IsIn, KeepsRules}
+use Rattle.tick_model.specs.Universe.{of_account, AccountFields, QueueClass, Fleet, Item, Setting, State, same_class}
 use Rattle.tick_model.specs.Views.{View, queue_in, view}
 use Rattle.tick_model.proofs.Effects.{StandsBy, after, came_queue, effect-is, event-ends, other-queue, queue-after, seen_of}
 use Rattle.tick_model.proofs.EventLaws.{next_found}
 use Rattle.tick_model.proofs.EventKeeps.{event-keeps}
-use Rattle.tick_model.proofs.Follows.{Follows}
 use Rattle.tick_model.proofs.Gains.{advance-keeps, gained, view-advanced}
-use Rattle.tick_model.proofs.Landings.{landing-is}
+use Rattle.tick_model.proofs.Landings.{after_landing, flies-in, landing-is}
 use Rattle.tick_model.proofs.Lists.{and-is, cell-is, class-is}
 use Rattle.tick_model.proofs.Seen.{event-units}
+use Rattle.tick_model.proofs.Raising.{follows-shorter}
+use Rattle.tick_model.proofs.LimitsFleets.{landing-fewer, landing-kept, landing-loaded, landing-steady}
+use Rattle.tick_model.proofs.LimitsOwn.{AllKept, all-kept, slots-kept}
+use Rattle.tick_model.proofs.LimitsQueues.{advance-kept, advance-steady, done-after-slots, done-kept}
+use Rattle.tick_model.proofs.Steady.{steady-slots}
 
 pub same-most : (a b most : ℕ) → a ≡ b → b ≤ most → a ≤ most
 same-most a b most same less = omega (arith, same, less)
 
--- gains change no queue and no units
+-- gains change stocks alone
 pub gains-limits : (setting : Setting) (k : CellId → ℕ) (state : State) → KeepsLimits setting state → KeepsLimits setting (advance setting k state)
 gains-limits setting k state limits = record {
   queued = limits.queued;
   counted = λ player.
       let here = view setting.cells state (Account player) in
       same-most _ here.units UNITS (ap (λ (seen : View). seen.units) (view-advanced setting k state (Account player)) ∙ (gained setting.rules (k (Account player)) here).units) (limits.counted player);
+  levelled = λ cell. (advance-kept setting k state (all-kept setting state limits) cell).levelled;
+  learned = λ cell. (advance-kept setting k state (all-kept setting state limits) cell).learned;
+  loaded = limits.loaded;
+  slots = slots-kept setting state (advance setting k state).own state.fleets (λ x. steady-slots _ _ (advance-steady setting k state x)) (λ player. omega arith) limits;
 }
-
--- the queue that an event leaves is no longer
-follows-shorter : (later queue : List Item) → Follows later queue → length queue ≤ length later
-follows-shorter [] [] follows = omega arith
-follows-shorter [] (item ∷ more) follows = absurd follows
-follows-shorter (old ∷ later) [] follows = omega arith
-follows-shorter (old ∷ later) (item ∷ more) (inl both) = let rest : length more ≡ length later = ap length both.1 in omega (arith, rest)
-follows-shorter (old ∷ later) (item ∷ more) (inr skipped) = let rest = follows-shorter later (item ∷ more) skipped in omega (arith, rest)
 
 both-most : (a b c most : ℕ) → a ≤ b → b ≡ c → c ≤ most → a ≤ most
 both-most a b c most less same in_room = omega (arith, less, same, in_room)
@@ -70,12 +72,47 @@ event-queued setting state (item_due sort item later) fine stands limits cell cl
 event-queued setting state (lands fleet) fine stands limits cell class =
     same-most _ _ MOST_QUEUED (ap (λ s. length (queue_in s.items cell class)) (landing-is setting fleet state)) (limits.queued cell class)
 
+-- every cell keeps its levels after it
+event-kept : (setting : Setting) (state : State) (event : Event) → KeepsRules setting state → Owes (view setting.cells state (home event)) event → KeepsLimits setting state
+    → AllKept (effect setting event state).own (effect setting event state).items
+event-kept setting state (item_due class item later) fine stands limits =
+    subst (λ (s : State). AllKept s.own s.items) (sym (effect-is setting class item later state)) (done-kept setting state fine (all-kept setting state limits) class item later stands)
+event-kept setting state (lands fleet) fine stands limits =
+    let flies = flies-in setting.cells state (home (lands fleet)) fleet stands in
+    subst (λ (s : State). AllKept s.own s.items) (sym (landing-is setting fleet state)) (landing-kept setting state fleet (fine.flying fleet flies).kinds (all-kept setting state limits))
+
+event-loaded : (setting : Setting) (state : State) (event : Event) → KeepsRules setting state → Owes (view setting.cells state (home event)) event → KeepsLimits setting state
+    → (fleet : Fleet) → IsIn fleet (effect setting event state).fleets → IsLoaded fleet
+event-loaded setting state (item_due class item later) fine stands limits fleet is =
+    limits.loaded fleet (subst (λ (s : State). IsIn fleet s.fleets) (effect-is setting class item later state) is)
+event-loaded setting state (lands fleet) fine stands limits other is =
+    landing-loaded setting state fleet fine (flies-in setting.cells state (home (lands fleet)) fleet stands) limits.loaded other
+    (subst (λ (s : State). IsIn other s.fleets) (landing-is setting fleet state) is)
+
+-- no account has more fleets than slots
+abbrev HasSlots : State → Type 0
+HasSlots state = (player : Player) (account : AccountFields) → state.own (Account player) ≡ of_account account → length (own_fleets player state.fleets) ≤ slots_of account
+
+event-slots : (setting : Setting) (state : State) (event : Event) → KeepsRules setting state → Owes (view setting.cells state (home event)) event → KeepsLimits setting state → HasSlots (effect setting event state)
+event-slots setting state (item_due class item later) fine stands limits =
+    subst HasSlots (sym (effect-is setting class item later state))
+    (slots-kept setting state (after setting class item later state).own state.fleets (done-after-slots setting state class item later) (λ player. omega arith) limits)
+event-slots setting state (lands fleet) fine stands limits =
+    let kinds = (fine.flying fleet (flies-in setting.cells state (home (lands fleet)) fleet stands)).kinds in
+    subst HasSlots (sym (landing-is setting fleet state))
+    (slots-kept setting state (after_landing setting fleet state).own (after_landing setting fleet state).fleets
+    (λ x. steady-slots _ _ (landing-steady setting state fleet kinds x)) (landing-fewer setting state fleet) limits)
+
 -- an event makes no queue longer, and accounts have as many units as before
 pub event-limits : (setting : Setting) (state : State) (event : Event) → KeepsRules setting state → Owes (view setting.cells state (home event)) event → KeepsLimits setting state
     → KeepsLimits setting (effect setting event state)
 event-limits setting state event fine stands limits = record {
   queued = event-queued setting state event fine stands limits;
   counted = λ player. same-most _ _ UNITS (event-units setting state event (Account player) fine stands) (limits.counted player);
+  levelled = λ cell. (event-kept setting state event fine stands limits cell).levelled;
+  learned = λ cell. (event-kept setting state event fine stands limits cell).learned;
+  loaded = event-loaded setting state event fine stands limits;
+  slots = event-slots setting state event fine stands limits;
 }
 
 -- Seconds.

@@ -1,5 +1,7 @@
 -- What comes of a request: nothing is changed, or a planet's own fields are, or an item joins a queue.
-use Rattle.std.proofs.Common.{◌≡◌, ℕ, zero, suc, ◌+◌, ◌-◌, ◌*◌, ◌/◌, ◌<◌, ◌≤◌, List, [], ◌∷◌, ◌++◌, Bool, true, false, not, cond, eqb, Option, None, Some, length, nat_le, sum, arith, refl, ap, ◌∙◌, sym, subst}
+use Rattle.std.proofs.Common.{◌≡◌, ℕ, zero, suc, ◌+◌, ◌-◌, ◌*◌, ◌/◌, ◌<◌, ◌≤◌, inl, inr, List, [], ◌∷◌, ◌++◌, Bool, true, false, not, ◌&&◌, cond, eqb, Option, None, Some, length, nat_le, sum, arith, refl, ap, ◌∙◌, sym, subst}
+use Rattle.std.specs.Prelude.{IsTrue, nat_lt}
+use Rattle.std.specs.List.{list_any}
 use Rattle.std.proofs.lemmas.Bool.Decides.{nat_tests}
 use Rattle.std.proofs.lemmas.List.Sums.{sum_by-cons}
 use Rattle.base_ids.specs.Cells.{same_cell, same_player}
@@ -11,34 +13,40 @@ use Rattle.base_ids.specs.declared.player.Player.{Player}
 use Rattle.base_ids.specs.declared.cell_id.CellId.{CellId}
 use Rattle.base_ids.specs.declared.cell_id.CellId.TheVariants.{Account, Planet}
 use Rattle.catalog.specs.Kinds.{place_in}
+use Rattle.catalog.specs.Levels.{level_cap_of}
+use Rattle.catalog.specs.Technologies.{level_in}
 use Rattle.catalog.specs.declared.classes.TheConstants.{UNIT_KINDS}
 use Rattle.catalog.specs.declared.kind.Kind.{Kind}
 use Rattle.catalog.specs.declared.mission.Mission.{Mission}
 use Rattle.catalog.specs.declared.mission.Mission.TheVariants.{Transport, Deploy, Harvest, Attack}
 use Rattle.catalog.specs.declared.ships.TheConstants.{SHIPS, UNITS}
 use Rattle.flight.specs.Distances.{distance_of}
+use Rattle.flight.specs.Freight.{capacity_of}
 use Rattle.flight.specs.Speeds.{fleet_speed}
 use Rattle.flight.specs.Times.{flight_seconds, pace, way}
 use Rattle.laziness.proofs.Bringing.{never}
 use Rattle.reply_text.specs.OrderLines.{back_line}
 use Rattle.request_text.specs.declared.request.Request.{Request}
 use Rattle.request_text.specs.declared.request.Request.TheVariants.{Planet as PlanetOf, Account as AccountOf, Fleets, System as SystemOf, Build, Research, Yard as YardOf, Set, Send, Join, Recall}
-use Rattle.tick_model.specs.declared.codes.TheConstants.{BAD_MISSION, CEILING, LEVEL_CAP, MOST_QUEUED, NO_SHIPS, NOT_BUILT, NOT_OUTBOUND, NOT_YOURS, POOR, QUEUE_FULL, REQUIRES}
+use Rattle.tick_model.specs.declared.codes.TheConstants.{BAD_MISSION, CEILING, LEVEL_CAP, MOST_QUEUED, NO_FIELDS, NO_ROOM, NO_SHIPS, NO_SLOT, NOT_BUILT, NOT_OUTBOUND, NOT_YOURS, POOR, QUEUE_FULL, REQUIRES}
 use Rattle.tick_model.specs.Buildings.{pays, started}
 use Rattle.tick_model.specs.Changes.{Change, new_fleet, new_owns, new_queue, no_change, owns, sends_fleet}
 use Rattle.tick_model.specs.Flights.{left_by, recalled_at, turned}
-use Rattle.tick_model.specs.Lines.{own_fleets}
-use Rattle.tick_model.specs.Refusals.{build_refusal, is_full, research_refusal, yard_refusal}
+use Rattle.tick_model.specs.Limits.{IsLoaded, cargo_units}
+use Rattle.tick_model.specs.Lines.{own_fleets, slots_of}
+use Rattle.tick_model.specs.Production.{level_of}
+use Rattle.tick_model.specs.Refusals.{build_refusal, is_dome, is_full, queued, research_refusal, used_fields, yard_refusal}
 use Rattle.tick_model.specs.Requests.{Sight, Outcome, refused, granted, on_own, on_account, queue_seen, with_planet, ordered, queues, queues_research, queues_batch, builds, researches, yards, own_seen, outcome, shows, sets, tells, tells_fleets, tells_system, errand_of, is_flown, owner_there, recalls, recalls_own, sends, sends_on}
-use Rattle.tick_model.specs.Sending.{Errand, can_go, departed, fleet_of, has_ships, launched, seconds_to, send_refusal, suits}
+use Rattle.tick_model.specs.Sending.{Errand, can_go, departed, fleet_of, fuel_of, has_room, has_ships, load_of, launched, seconds_to, send_refusal, suits}
 use Rattle.tick_model.specs.Researches.{pays_research, started_research}
 use Rattle.tick_model.specs.Rules.{IsBatch, queue_cell}
-use Rattle.tick_model.specs.Universe.{Own, of_nothing, of_account, of_planet, AccountFields, Buildings, Researches, Yard, PlanetFields, Fleet, Item}
-use Rattle.tick_model.specs.Yards.{begun, pays_batch}
+use Rattle.tick_model.specs.Universe.{Own, of_nothing, of_account, of_planet, AccountFields, QueueClass, Buildings, Researches, Yard, PlanetFields, Fleet, Item}
+use Rattle.tick_model.specs.Yards.{begun, count_of, pays_batch}
 use Rattle.tick_model.proofs.Ends.{duration-least, research-least, unit-least}
 use Rattle.tick_model.proofs.Fleets.{IsFleetOf, fleet-found}
-use Rattle.tick_model.proofs.Lists.{and-is, not-false, not-true, number-is, player-from}
+use Rattle.tick_model.proofs.Lists.{and-is, not-false, not-true, number-is, or-is, player-from}
 use Rattle.tick_model.proofs.Owns.{IsAlike, Stays, alike-itself, put-alike}
+use Rattle.tick_model.proofs.Steady.{IsBuiltAlike, IsSteady, left-below, one-account, one-planet, put-steady, steady-itself, steady-planet, units-alike}
 use Rattle.tick_model.proofs.Units.{unit-place}
 
 -- the caller's account and a planet of the caller are seen
@@ -50,6 +58,18 @@ pub record IsOwn (sight : Sight) (player : Player) (at : Coord) (account : Accou
 -- what cells have of their own stays alike
 abbrev pub AllSeenAlike : Sight → (CellId → Own) → Type 0
 AllSeenAlike sight own = (x : CellId) → IsAlike (owns sight.seen x) (own x)
+
+-- what cells have of their own is steady
+abbrev pub AllSeenSteady : Sight → (CellId → Own) → Type 0
+AllSeenSteady sight own = (x : CellId) → IsSteady (owns sight.seen x) (own x)
+
+-- An item may join these of a cell: with it no level rises above its highest one, a planet has the fields for its buildings, and no
+-- second dome of a kind.
+abbrev pub IsAllowed : QueueClass → Item → Own → List Item → Type 0
+IsAllowed Buildings item own items =
+    (planet : PlanetFields) → own ≡ of_planet planet → (level_of planet item.kind + queued item.kind items < level_cap_of item.kind) × (used_fields planet + length items < planet.fields)
+IsAllowed Researches item own items = (account : AccountFields) → own ≡ of_account account → level_in account.techs.n item.kind + queued item.kind items < level_cap_of item.kind
+IsAllowed Yard item own items = (planet : PlanetFields) → own ≡ of_planet planet → is_dome item.kind ≡ true → count_of planet item.kind + queued item.kind items + item.left ≤ 1
 
 -- a request's item: it bears the request's number, and joins the queue of the right cell
 pub record IsOrdered (sight : Sight) (player : Player) (item : Item) : Type 0 where
@@ -65,6 +85,7 @@ pub record IsOrdered (sight : Sight) (player : Player) (item : Item) : Type 0 wh
   -- the queue has room for it, and the caller may have its units
   pub room : length (queue_seen sight item.cell item.class) < MOST_QUEUED
   pub few : item.class ≡ Yard → (sight.seen (Account player)).units + item.left ≤ UNITS
+  pub allowed : IsAllowed item.class item (owns sight.seen item.cell) (queue_seen sight item.cell item.class)
 
 -- A fleet that a request sends from a planet of the caller, which is as before but for its stocks and units. It bears the request's
 -- number, and comes due after the request's moment.
@@ -77,6 +98,10 @@ pub record IsSent (sight : Sight) (player : Player) (own : CellId → Own) (flee
   pub own_is : own ≡ with_planet sight fleet.origin departed
   -- its ships are gone from there
   pub gone : sum departed.units + sum fleet.ships ≡ sum planet.units
+  pub built : IsBuiltAlike planet departed
+  -- they carry its cargo, and the caller has a slot for it
+  pub loaded : IsLoaded fleet
+  pub slot : length (own_fleets player (sight.seen (Account player)).fleets) < slots_of account
   pub to : PlanetFields
   pub reaches : owns sight.seen (Planet fleet.target) ≡ of_planet to
   pub is_theirs : to.owner ≡ fleet.target_owner
@@ -94,8 +119,8 @@ recalled sight fleet = Some (turned fleet (recalled_at fleet sight.moment) fleet
 -- what a request changes
 pub data Changes (sight : Sight) (player : Player) (req : Request) (change : Change) : Type 0 where
   nothing : change ≡ no_change sight.seen → Changes sight player req change
-  fields : (own : CellId → Own) → AllSeenAlike sight own → change ≡ new_owns own → Changes sight player req change
-  joined : (own : CellId → Own) (item : Item) → AllSeenAlike sight own → IsOrdered sight player item
+  fields : (own : CellId → Own) → AllSeenAlike sight own → AllSeenSteady sight own → change ≡ new_owns own → Changes sight player req change
+  joined : (own : CellId → Own) (item : Item) → AllSeenAlike sight own → AllSeenSteady sight own → IsOrdered sight player item
       → change ≡ new_queue own item.cell item.class (queue_seen sight item.cell item.class ++ item ∷ []) → Changes sight player req change
   dispatched : (own : CellId → Own) (fleet : Fleet) → IsSent sight player own fleet → change ≡ sends_fleet own fleet → Changes sight player req change
   called_back : (number : FleetNumber) (fleet : Fleet) → req ≡ Recall number → IsFleetOf player number.f (sight.seen (Account player)).fleets fleet → fleet.outbound ≡ true
@@ -114,50 +139,82 @@ seen-alike sight x = alike-itself (owns sight.seen x)
 some-before : {A : Type 0} (first : Item) (later items : List Item) → first ∷ later ≡ items → items ≡ [] → A
 some-before first later items is none = absurd (let both : first ∷ later ≡ [] = is ∙ none in cc)
 
+-- and so it is steady, if its levels and fields are the same as well
+planet-steady : (sight : Sight) (at : Coord) (planet new : PlanetFields) → owns sight.seen (Planet at) ≡ of_planet planet → new.levels ≡ planet.levels → new.fields ≡ planet.fields → new.units ≡ planet.units
+    → AllSeenSteady sight (with_planet sight at new)
+planet-steady sight at planet new is levels room units =
+    put-steady (Planet at) (of_planet new) (owns sight.seen) (subst (λ own. IsSteady own (of_planet new)) (sym is) (steady-planet planet new (units-alike planet new levels room units)))
+
+seen-steady : (sight : Sight) → AllSeenSteady sight (owns sight.seen)
+seen-steady sight x = steady-itself (owns sight.seen x)
+
+-- What is allowed by the planet or the account that is seen.
+
+allowed-building : (item : Item) (own : Own) (planet : PlanetFields) (items seen : List Item) → own ≡ of_planet planet → items ≡ seen
+    → (level_of planet item.kind + queued item.kind items < level_cap_of item.kind) × (used_fields planet + length items < planet.fields) → IsAllowed Buildings item own seen
+allowed-building item own planet items seen there is below p has =
+    subst (λ (x : PlanetFields). (level_of x item.kind + queued item.kind seen < level_cap_of item.kind) × (used_fields x + length seen < x.fields)) (one-planet planet p (sym there ∙ has))
+    (subst (λ queue. (level_of planet item.kind + queued item.kind queue < level_cap_of item.kind) × (used_fields planet + length queue < planet.fields)) is below)
+
+allowed-research : (item : Item) (own : Own) (account : AccountFields) (items seen : List Item) → own ≡ of_account account → items ≡ seen
+    → level_in account.techs.n item.kind + queued item.kind items < level_cap_of item.kind → IsAllowed Researches item own seen
+allowed-research item own account items seen there is below a has =
+    subst (λ (x : AccountFields). level_in x.techs.n item.kind + queued item.kind seen < level_cap_of item.kind) (one-account account a (sym there ∙ has))
+    (subst (λ queue. level_in account.techs.n item.kind + queued item.kind queue < level_cap_of item.kind) is below)
+
+allowed-batch : (item : Item) (own : Own) (planet : PlanetFields) (items seen : List Item) → own ≡ of_planet planet → items ≡ seen
+    → (is_dome item.kind ≡ true → count_of planet item.kind + queued item.kind items + item.left ≤ 1) → IsAllowed Yard item own seen
+allowed-batch item own planet items seen there is alone p has dome =
+    subst (λ (x : PlanetFields). count_of x item.kind + queued item.kind seen + item.left ≤ 1) (one-planet planet p (sym there ∙ has))
+    (subst (λ queue. count_of planet item.kind + queued item.kind queue + item.left ≤ 1) is (alone dome))
+
 room-seen : (items seen : List Item) → items ≡ seen → length items < MOST_QUEUED → length seen < MOST_QUEUED
 room-seen items seen is room = subst (λ queue. length queue < MOST_QUEUED) is room
 
 queues-change : (sight : Sight) (player : Player) (req : Request) (at : Coord) (kind : Kind) (account : AccountFields) (planet : PlanetFields) (items : List Item) → IsOwn sight player at account planet
-    → items ≡ queue_seen sight (Planet at) Buildings → length items < MOST_QUEUED → Changes sight player req (queues sight at kind planet items).change
-queues-change sight player req at kind account planet [] own is room =
+    → items ≡ queue_seen sight (Planet at) Buildings → length items < MOST_QUEUED
+    → (level_of planet kind + queued kind items < level_cap_of kind) × (used_fields planet + length items < planet.fields) → Changes sight player req (queues sight at kind planet items).change
+queues-change sight player req at kind account planet [] own is room below =
     let item = started sight.rules.speed sight.moment planet (ordered sight (Planet at) Buildings at kind 0) in
     let least = duration-least sight.rules.speed planet kind in
-    joined (with_planet sight at (pays planet kind)) item (planet-alike sight at planet (pays planet kind) own.there (refl, refl))
-    (record { account = account; planet = planet; is_own = own; number = refl; cell = refl; batch = tt; runs = λ none. omega (arith, least); paced = λ none yard. absurd cc; room = room-seen _ _ is room; few = λ yard. absurd cc })
+    joined (with_planet sight at (pays planet kind)) item (planet-alike sight at planet (pays planet kind) own.there (refl, refl)) (planet-steady sight at planet (pays planet kind) own.there refl refl refl)
+    (record { account = account; planet = planet; is_own = own; number = refl; cell = refl; batch = tt; runs = λ none. omega (arith, least); paced = λ none yard. absurd cc; room = room-seen _ _ is room; few = λ yard. absurd cc; allowed = allowed-building item (owns sight.seen (Planet at)) planet _ _ own.there is below })
     (ap (λ items. new_queue (with_planet sight at (pays planet kind)) (Planet at) Buildings (items ++ item ∷ [])) is)
-queues-change sight player req at kind account planet (first ∷ later) own is room =
+queues-change sight player req at kind account planet (first ∷ later) own is room below =
     let item = ordered sight (Planet at) Buildings at kind 0 in
-    joined (owns sight.seen) item (seen-alike sight)
-    (record { account = account; planet = planet; is_own = own; number = refl; cell = refl; batch = tt; runs = λ none. some-before first later _ is none; paced = λ none yard. absurd cc; room = room-seen _ _ is room; few = λ yard. absurd cc })
+    joined (owns sight.seen) item (seen-alike sight) (seen-steady sight)
+    (record { account = account; planet = planet; is_own = own; number = refl; cell = refl; batch = tt; runs = λ none. some-before first later _ is none; paced = λ none yard. absurd cc; room = room-seen _ _ is room; few = λ yard. absurd cc; allowed = allowed-building item (owns sight.seen (Planet at)) planet _ _ own.there is below })
     (ap (λ items. new_queue (owns sight.seen) (Planet at) Buildings (items ++ item ∷ [])) is)
 
 research-change : (sight : Sight) (player : Player) (req : Request) (at : Coord) (kind : Kind) (account : AccountFields) (planet : PlanetFields) (items : List Item) → IsOwn sight player at account planet
-    → items ≡ queue_seen sight (Account player) Researches → length items < MOST_QUEUED → Changes sight player req (queues_research sight player at kind account planet items).change
-research-change sight player req at kind account planet [] own is room =
+    → items ≡ queue_seen sight (Account player) Researches → length items < MOST_QUEUED → level_in account.techs.n kind + queued kind items < level_cap_of kind
+    → Changes sight player req (queues_research sight player at kind account planet items).change
+research-change sight player req at kind account planet [] own is room below =
     let item = started_research sight.rules.speed sight.moment account planet (ordered sight (Account player) Researches at kind 0) in
     let least = research-least sight.rules.speed account planet kind in
-    joined (with_planet sight at (pays_research account planet kind)) item (planet-alike sight at planet (pays_research account planet kind) own.there (refl, refl))
-    (record { account = account; planet = planet; is_own = own; number = refl; cell = refl; batch = tt; runs = λ none. omega (arith, least); paced = λ none yard. absurd cc; room = room-seen _ _ is room; few = λ yard. absurd cc })
+    joined (with_planet sight at (pays_research account planet kind)) item (planet-alike sight at planet (pays_research account planet kind) own.there (refl, refl)) (planet-steady sight at planet (pays_research account planet kind) own.there refl refl refl)
+    (record { account = account; planet = planet; is_own = own; number = refl; cell = refl; batch = tt; runs = λ none. omega (arith, least); paced = λ none yard. absurd cc; room = room-seen _ _ is room; few = λ yard. absurd cc; allowed = allowed-research item (owns sight.seen (Account player)) account _ _ own.caller is below })
     (ap (λ items. new_queue (with_planet sight at (pays_research account planet kind)) (Account player) Researches (items ++ item ∷ [])) is)
-research-change sight player req at kind account planet (first ∷ later) own is room =
+research-change sight player req at kind account planet (first ∷ later) own is room below =
     let item = ordered sight (Account player) Researches at kind 0 in
-    joined (owns sight.seen) item (seen-alike sight)
-    (record { account = account; planet = planet; is_own = own; number = refl; cell = refl; batch = tt; runs = λ none. some-before first later _ is none; paced = λ none yard. absurd cc; room = room-seen _ _ is room; few = λ yard. absurd cc })
+    joined (owns sight.seen) item (seen-alike sight) (seen-steady sight)
+    (record { account = account; planet = planet; is_own = own; number = refl; cell = refl; batch = tt; runs = λ none. some-before first later _ is none; paced = λ none yard. absurd cc; room = room-seen _ _ is room; few = λ yard. absurd cc; allowed = allowed-research item (owns sight.seen (Account player)) account _ _ own.caller is below })
     (ap (λ items. new_queue (owns sight.seen) (Account player) Researches (items ++ item ∷ [])) is)
 
 batch-change : (sight : Sight) (player : Player) (req : Request) (at : Coord) (kind : Kind) (count : ℕ) (account : AccountFields) (planet : PlanetFields) (items : List Item) → IsOwn sight player at account planet
-    → 1 ≤ count → place_in UNIT_KINDS kind < length UNIT_KINDS → items ≡ queue_seen sight (Planet at) Yard → length items < MOST_QUEUED → (sight.seen (Account player)).units + count ≤ UNITS → Changes sight player req (queues_batch sight at kind count planet items).change
-batch-change sight player req at kind count account planet [] own some known is room few =
+    → 1 ≤ count → place_in UNIT_KINDS kind < length UNIT_KINDS → items ≡ queue_seen sight (Planet at) Yard → length items < MOST_QUEUED → (sight.seen (Account player)).units + count ≤ UNITS
+    → (is_dome kind ≡ true → count_of planet kind + queued kind items + count ≤ 1) → Changes sight player req (queues_batch sight at kind count planet items).change
+batch-change sight player req at kind count account planet [] own some known is room few alone =
     let new = pays_batch planet kind count in
     let item = begun sight.rules.speed sight.moment planet (ordered sight (Planet at) Yard at kind count) in
     let least = unit-least sight.rules.speed planet kind in
-    joined (with_planet sight at new) item (planet-alike sight at planet new own.there (refl, refl))
-    (record { account = account; planet = planet; is_own = own; number = refl; cell = refl; batch = (some, known); runs = λ none. omega (arith, least); paced = λ none yard. least; room = room-seen _ _ is room; few = λ yard. few })
+    joined (with_planet sight at new) item (planet-alike sight at planet new own.there (refl, refl)) (planet-steady sight at planet new own.there refl refl refl)
+    (record { account = account; planet = planet; is_own = own; number = refl; cell = refl; batch = (some, known); runs = λ none. omega (arith, least); paced = λ none yard. least; room = room-seen _ _ is room; few = λ yard. few; allowed = allowed-batch item (owns sight.seen (Planet at)) planet _ _ own.there is alone })
     (ap (λ items. new_queue (with_planet sight at new) (Planet at) Yard (items ++ item ∷ [])) is)
-batch-change sight player req at kind count account planet (first ∷ later) own some known is room few =
+batch-change sight player req at kind count account planet (first ∷ later) own some known is room few alone =
     let new = pays_batch planet kind count in
     let item = ordered sight (Planet at) Yard at kind count in
-    joined (with_planet sight at new) item (planet-alike sight at planet new own.there (refl, refl))
+    joined (with_planet sight at new) item (planet-alike sight at planet new own.there (refl, refl)) (planet-steady sight at planet new own.there refl refl refl)
     (record {
       account = account;
       planet = planet;
@@ -169,6 +226,7 @@ batch-change sight player req at kind count account planet (first ∷ later) own
       paced = λ none yard. some-before first later _ is none;
       room = room-seen _ _ is room;
       few = λ yard. few;
+      allowed = allowed-batch item (owns sight.seen (Planet at)) planet _ _ own.there is alone;
     })
     (ap (λ items. new_queue (with_planet sight at new) (Planet at) Yard (items ++ item ∷ [])) is)
 
@@ -214,29 +272,51 @@ passed code rest false some none = (refl, none)
 has-room : (items : List Item) → is_full items ≡ false → length items < MOST_QUEUED
 has-room items is = grind (arith, nat_tests)
 
-build-room : (account : AccountFields) (planet : PlanetFields) (items : List Item) (kind : Kind) → build_refusal account planet items kind ≡ 0 → length items < MOST_QUEUED
-unfolding build_refusal
-build-room account planet items kind none = has-room items (passed QUEUE_FULL _ (is_full items) (omega arith) none).0
+below-cap : (most n : ℕ) → nat_le most n ≡ false → n < most
+below-cap most n is = grind (arith, nat_tests)
 
-research-room : (speed : ℕ) (account : AccountFields) (planet : PlanetFields) (items : List Item) (kind : Kind) → research_refusal speed account planet items kind ≡ 0 → length items < MOST_QUEUED
+-- a building that isn't refused has a level and a field to rise to
+build-room : (account : AccountFields) (planet : PlanetFields) (items : List Item) (kind : Kind) → build_refusal account planet items kind ≡ 0
+    → (length items < MOST_QUEUED) × (level_of planet kind + queued kind items < level_cap_of kind) × (used_fields planet + length items < planet.fields)
+unfolding build_refusal
+build-room account planet items kind none =
+    let some : (1 ≤ LEVEL_CAP) × (1 ≤ REQUIRES) × (1 ≤ NO_FIELDS) = (omega arith, omega arith, omega arith) in
+    let full = passed QUEUE_FULL _ (is_full items) (omega arith) none in
+    let cap = passed LEVEL_CAP _ (nat_le (level_cap_of kind) (level_of planet kind + queued kind items)) some.0 full.1 in
+    let met = passed REQUIRES _ _ some.1 cap.1 in
+    let fields = passed NO_FIELDS _ (nat_le planet.fields (used_fields planet + length items)) some.2 met.1 in
+    (has-room items full.0, below-cap (level_cap_of kind) (level_of planet kind + queued kind items) cap.0, below-cap planet.fields (used_fields planet + length items) fields.0)
+
+-- and a technology a level
+research-room : (speed : ℕ) (account : AccountFields) (planet : PlanetFields) (items : List Item) (kind : Kind) → research_refusal speed account planet items kind ≡ 0
+    → (length items < MOST_QUEUED) × (level_in account.techs.n kind + queued kind items < level_cap_of kind)
 unfolding research_refusal
-research-room speed account planet items kind none = has-room items (passed QUEUE_FULL _ (is_full items) (omega arith) none).0
+research-room speed account planet items kind none =
+    let some : 1 ≤ LEVEL_CAP = omega arith in
+    let full = passed QUEUE_FULL _ (is_full items) (omega arith) none in
+    let cap = passed LEVEL_CAP _ (nat_le (level_cap_of kind) (level_in account.techs.n kind + queued kind items)) some full.1 in
+    (has-room items full.0, below-cap (level_cap_of kind) (level_in account.techs.n kind + queued kind items) cap.0)
 
 -- and a batch keeps the caller's units within the ceiling
 below-ceiling : (units : ℕ) → nat_le (UNITS + 1) units ≡ false → units ≤ UNITS
 below-ceiling units is = grind (arith, nat_tests)
 
+-- a dome is the only one of its kind
+dome-alone : (dome : Bool) (n : ℕ) → dome && nat_le 2 n ≡ false → dome ≡ true → n ≤ 1
+dome-alone true n two is = grind (arith, nat_tests)
+dome-alone false n two is = absurd cc
+
 yard-room : (account : AccountFields) (units : ℕ) (planet : PlanetFields) (batches : List Item) (kind : Kind) (count : ℕ) → yard_refusal account units planet batches kind count ≡ 0
-    → (length batches < MOST_QUEUED) × (units + count ≤ UNITS)
+    → (length batches < MOST_QUEUED) × (units + count ≤ UNITS) × (is_dome kind ≡ true → count_of planet kind + queued kind batches + count ≤ 1)
 unfolding yard_refusal
 yard-room account units planet batches kind count none =
     let some : (1 ≤ LEVEL_CAP) × (1 ≤ REQUIRES) × (1 ≤ POOR) × (1 ≤ CEILING) = (omega arith, omega arith, omega arith, omega arith) in
     let full = passed QUEUE_FULL _ (is_full batches) (omega arith) none in
-    let cap = passed LEVEL_CAP _ _ some.0 full.1 in
+    let cap = passed LEVEL_CAP _ (is_dome kind && nat_le 2 (count_of planet kind + queued kind batches + count)) some.0 full.1 in
     let met = passed REQUIRES _ _ some.1 cap.1 in
     let paid = passed POOR _ _ some.2 met.1 in
     let ceiling = passed CEILING _ (nat_le (UNITS + 1) (units + count)) some.3 paid.1 in
-    (has-room batches full.0, below-ceiling (units + count) ceiling.0)
+    (has-room batches full.0, below-ceiling (units + count) ceiling.0, dome-alone (is_dome kind) (count_of planet kind + queued kind batches + count) cap.0)
 
 -- a mission that isn't refused suits the target
 pub send-goes : (player : Player) (account : AccountFields) (fleets : ℕ) (planet : PlanetFields) (target : Own) (errand : Errand) → send_refusal player account fleets planet target errand ≡ 0
@@ -246,6 +326,43 @@ send-goes player account fleets planet target errand none =
     let ships = passed NO_SHIPS _ (not (has_ships planet.units errand.ships)) (omega arith) none in
     let goes = passed BAD_MISSION _ (not (can_go player errand target)) (omega arith) ships.1 in
     (not-false (has_ships planet.units errand.ships) ships.0, not-false (can_go player errand target) goes.0)
+
+sum-cons : (x : ℕ) (xs : List ℕ) → sum (x ∷ xs) ≡ x + sum xs
+sum-cons x xs = sum_by-cons (λ (n : ℕ). n) x xs
+
+ship-fits : (ship count : ℕ) → nat_le ship count ≡ true → ship ≤ count
+ship-fits ship count is = grind (arith, nat_tests)
+
+-- it has a slot, and room for its cargo
+send-fits : (player : Player) (account : AccountFields) (fleets : ℕ) (planet : PlanetFields) (target : Own) (errand : Errand) → send_refusal player account fleets planet target errand ≡ 0
+    → (fleets < slots_of account) × (has_room account errand ≡ true)
+unfolding send_refusal
+send-fits player account fleets planet target errand none =
+    let some : (1 ≤ NO_SLOT) × (1 ≤ NO_ROOM) = (omega arith, omega arith) in
+    let ships = passed NO_SHIPS _ (not (has_ships planet.units errand.ships)) (omega arith) none in
+    let goes = passed BAD_MISSION _ (not (can_go player errand target)) (omega arith) ships.1 in
+    let slot = passed NO_SLOT _ (nat_le (slots_of account) fleets) some.0 goes.1 in
+    let room = passed NO_ROOM _ (not (has_room account errand)) some.1 slot.1 in
+    (below-cap (slots_of account) fleets slot.0, not-false (has_room account errand) room.0)
+
+cargo-fits : (account : AccountFields) (errand : Errand) → has_room account errand ≡ true → cargo_units errand.cargo ≤ capacity_of errand.ships
+unfolding has_room load_of
+cargo-fits account errand room =
+    let all : errand.cargo.metal + errand.cargo.crystal + (errand.cargo.deuterium + fuel_of account errand) ≤ capacity_of errand.ships = ship-fits _ _ room in
+    omega (arith, all)
+
+-- some ships are sent
+some-ships : (ships : List ℕ) → IsTrue (list_any (λ count. nat_lt 0 count) ships) → 1 ≤ sum ships
+some-ships [] some = absurd cc
+some-ships (ship ∷ ships) some =
+    let all = sum-cons ship ships in
+    elim (or-is (nat_lt 0 ship) (list_any (λ count. nat_lt 0 count) ships) some) [
+      | inl first ↦ (let more = one-ship ship first in omega (arith, all, more))
+      | inr later ↦ (let more = some-ships ships later in omega (arith, all, more))
+    ]
+  where
+    one-ship : (n : ℕ) → nat_lt 0 n ≡ true → 1 ≤ n
+    one-ship n is = grind (arith, nat_tests)
 
 -- the target is a planet, and a fleet is deployed to the caller's own
 pub record GoesTo (player : Player) (errand : Errand) (target : Own) : Type 0 where
@@ -282,12 +399,6 @@ unfolding departed
 departed-stays account planet errand = (refl, left-kinds planet.units errand.ships)
 
 -- what leaves a planet is gone from there
-sum-cons : (x : ℕ) (xs : List ℕ) → sum (x ∷ xs) ≡ x + sum xs
-sum-cons x xs = sum_by-cons (λ (n : ℕ). n) x xs
-
-ship-fits : (ship count : ℕ) → nat_le ship count ≡ true → ship ≤ count
-ship-fits ship count is = grind (arith, nat_tests)
-
 pub left-sum : (counts ships : List ℕ) → has_ships counts ships ≡ true → sum (left_by counts ships) + sum ships ≡ sum counts
 left-sum [] [] has = refl
 left-sum (count ∷ counts) [] has = let same : sum (count ∷ counts) + 0 ≡ sum (count ∷ counts) = omega arith in same
@@ -304,6 +415,10 @@ left-sum (count ∷ counts) (ship ∷ ships) has =
 departed-sum : (account : AccountFields) (planet : PlanetFields) (errand : Errand) → has_ships planet.units errand.ships ≡ true → sum (departed account planet errand).units + sum errand.ships ≡ sum planet.units
 unfolding departed
 departed-sum account planet errand has = left-sum planet.units errand.ships has
+
+departed-built : (account : AccountFields) (planet : PlanetFields) (errand : Errand) → IsBuiltAlike planet (departed account planet errand)
+unfolding departed count_of
+departed-built account planet errand = record { levels = refl; fields = refl; domes = λ kind is. left-below planet.units errand.ships (place_in UNIT_KINDS kind) }
 
 -- a flight takes a second or more
 some-part : (n d q : ℕ) → 1 ≤ n → n ≤ q * d → 1 ≤ q
@@ -325,8 +440,10 @@ owner-there player (of_account account) to is = absurd cc
 
 -- a fleet that isn't refused is sent
 sends-change : (sight : Sight) (player : Player) (req : Request) (errand : Errand) (account : AccountFields) (planet : PlanetFields) → length errand.ships ≡ length SHIPS
-    → IsOwn sight player errand.from account planet → has_ships planet.units errand.ships ≡ true → can_go player errand (own_seen sight (Planet errand.to)) ≡ true → Changes sight player req (sends sight player errand account planet).change
-sends-change sight player req errand account planet kinds own has goes =
+    → IsOwn sight player errand.from account planet → has_ships planet.units errand.ships ≡ true → can_go player errand (own_seen sight (Planet errand.to)) ≡ true
+    → IsTrue (list_any (λ count. nat_lt 0 count) errand.ships) → length (own_fleets player (sight.seen (Account player)).fleets) < slots_of account → has_room account errand ≡ true
+    → Changes sight player req (sends sight player errand account planet).change
+sends-change sight player req errand account planet kinds own has goes some slot room =
     let target = own_seen sight (Planet errand.to) in
     let to = goes-to player errand target goes in
     let theirs = owner-there player target to.to to.reaches in
@@ -340,6 +457,9 @@ sends-change sight player req errand account planet kinds own has goes =
       stays = departed-stays account planet errand;
       own_is = refl;
       gone = departed-sum account planet errand has;
+      built = departed-built account planet errand;
+      loaded = (some-ships errand.ships some, cargo-fits account errand room);
+      slot = slot;
       to = to.to;
       reaches = to.reaches;
       is_theirs = theirs;
@@ -374,21 +494,23 @@ outcome-changes sight player (Build at building) =
     at-own sight player (Build at building) at (builds sight at building.kind) (λ account planet own.
     let items = queue_seen sight (Planet at) Buildings in
     unless-refused sight player (Build at building) (build_refusal account planet items building.kind) (queues sight at building.kind planet items) (λ none.
-    queues-change sight player (Build at building) at building.kind account planet items own refl (build-room account planet items building.kind none)))
+    let room = build-room account planet items building.kind none in
+    queues-change sight player (Build at building) at building.kind account planet items own refl room.0 (room.1, room.2)))
 outcome-changes sight player (Research at technology) =
     at-own sight player (Research at technology) at (researches sight player at technology.kind) (λ account planet own.
     let items = queue_seen sight (Account player) Researches in
     unless-refused sight player (Research at technology) (research_refusal sight.rules.speed account planet items technology.kind) (queues_research sight player at technology.kind account planet items) (λ none.
-    research-change sight player (Research at technology) at technology.kind account planet items own refl (research-room sight.rules.speed account planet items technology.kind none)))
+    let room = research-room sight.rules.speed account planet items technology.kind none in
+    research-change sight player (Research at technology) at technology.kind account planet items own refl room.0 room.1))
 outcome-changes sight player (YardOf at unit count) =
     at-own sight player (YardOf at unit count) at (yards sight player at unit.kind count.n) (λ account planet own.
     let batches = queue_seen sight (Planet at) Yard in
     let units = (sight.seen (Account player)).units in
     unless-refused sight player (YardOf at unit count) (yard_refusal account units planet batches unit.kind count.n) (queues_batch sight at unit.kind count.n planet batches) (λ none.
     let room = yard-room account units planet batches unit.kind count.n none in
-    batch-change sight player (YardOf at unit count) at unit.kind count.n account planet batches own count.from (unit-place unit.kind unit.class) refl room.0 room.1))
+    batch-change sight player (YardOf at unit count) at unit.kind count.n account planet batches own count.from (unit-place unit.kind unit.class) refl room.0 room.1 room.2))
 outcome-changes sight player (Set at work tenths) =
-    at-own sight player (Set at work tenths) at (sets sight at work.kind tenths.n) (λ account planet own. fields (with_planet sight at _) (planet-alike sight at planet _ own.there (refl, refl)) refl)
+    at-own sight player (Set at work tenths) at (sets sight at work.kind tenths.n) (λ account planet own. fields (with_planet sight at _) (planet-alike sight at planet _ own.there (refl, refl)) (planet-steady sight at planet _ own.there refl refl refl) refl)
 outcome-changes sight player Fleets = account-change sight player Fleets (own_seen sight (Account player)) (tells_fleets sight player) (λ account. nothing refl)
 outcome-changes sight player (SystemOf system) = account-change sight player (SystemOf system) (own_seen sight (Account player)) (tells_system sight system) (λ account. nothing refl)
 outcome-changes sight player (Send from to mission setting ships cargo) =
@@ -399,7 +521,8 @@ outcome-changes sight player (Send from to mission setting ships cargo) =
     let target = own_seen sight (Planet to) in
     unless-refused sight player req (send_refusal player account fleets planet target errand) (sends sight player errand account planet) (λ none.
     let goes = send-goes player account fleets planet target errand none in
-    sends-change sight player req errand account planet ships.kinds own goes.0 goes.1)))
+    let fits = send-fits player account fleets planet target errand none in
+    sends-change sight player req errand account planet ships.kinds own goes.0 goes.1 ships.some fits.0 fits.1)))
 outcome-changes sight player (Recall fleet) =
     account-change sight player (Recall fleet) (own_seen sight (Account player)) (recalls_own sight player fleet.f) (λ account.
     recalls-change sight player fleet (fleet_of player fleet.f (sight.seen (Account player)).fleets) refl)

@@ -348,12 +348,12 @@ module _ (setting : Setting) (a : Entry) (t : ℕ) (S : CellId → Bool) (u : St
         within = within-owns cells S own u (owns-within setting a t u S own covers (λ x. alike-itself (own x)));
         makes = stays (write-nothing setting.cells cells u);
       })
-  made change (fields own alike is) =
+  made change (fields own alike steady is) =
       subst (λ c. IsMade cells S c t u) (sym is) (record {
         within = within-owns cells S own u (owns-within setting a t u S own covers alike);
         makes = changed (owns_after cells own u) (alike-after setting a t u own alike) (write-owns cells own u);
       })
-  made change (joined own item alike new is) =
+  made change (joined own item alike steady new is) =
       let there = ordered-there setting a t u item new in
       let items = queue_in u.items item.cell item.class ++ item ∷ [] in
       let all : change ≡ new_queue own item.cell item.class items =

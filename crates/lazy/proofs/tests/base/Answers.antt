@@ -12,5 +12,5 @@ returns c =
     c.in_ok-account.ensures.research
     (player_is one.owner account.player (c.planet.ensures.owner ∙ sym c.in_ok-account.ensures.player)) (player_is two.owner account.player (c.planet-2.ensures.owner ∙ sym c.in_ok-account.ensures.player))
     (rw (c.planet.ensures.at, c.planet-2.ensures.at) c.requires.rises)
-    (record { kinds = c.planet.ensures.kinds; units = c.planet.ensures.units; buildings = c.planet.ensures.buildings; yard = c.planet.ensures.yard })
-    (record { kinds = c.planet-2.ensures.kinds; units = c.planet-2.ensures.units; buildings = c.planet-2.ensures.buildings; yard = c.planet-2.ensures.yard })
+    (record { kinds = c.planet.ensures.kinds; levels = c.planet.ensures.levels; units = c.planet.ensures.units; buildings = c.planet.ensures.buildings; yard = c.planet.ensures.yard })
+    (record { kinds = c.planet-2.ensures.kinds; levels = c.planet-2.ensures.levels; units = c.planet-2.ensures.units; buildings = c.planet-2.ensures.buildings; yard = c.planet-2.ensures.yard })

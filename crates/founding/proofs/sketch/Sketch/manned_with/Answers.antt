@@ -1,6 +1,7 @@
 use Rattle.std.proofs.Common.{◌≡◌, ◌<◌, arith, get_or, length, subst, sym, ℕ}
 use Rattle.tick_model.specs.Yards.{count_of}
 use Rattle.std.proofs.Math.ListN.{length-set}
+use Rattle.founding.proofs.Bounded.{written-domes}
 use Rattle.founding.proofs.Totals.{sum-written}
 use Rattle.founding.proofs.sketch.Sketch.manned_with.Goals as goal
 
@@ -12,6 +13,10 @@ invariant_of-self-clause-within_units c =
     let all = sum-written c.args.self.units c.place_of_unit.result c.args.new.count (omega (arith, c.place_of_unit.ensures.within)) in
     let most = c.requires in
     omega (arith, all, most)
+
+pub invariant_of-self-clause-lone_domes : goal.invariant_of-self-clause-lone_domes
+invariant_of-self-clause-lone_domes c =
+    written-domes c.args.self.units c.args.new.unit.kind c.place_of_unit.result c.args.new.count c.args.self.lone_domes c.args.new.count_to c.place_of_unit.ensures.value
 
 pub returns-clause-total : goal.returns-clause-total
 unfolding count_of
