@@ -45,8 +45,8 @@ pub fn worlds_are_founded()
         → last_moment base.moment history ≤ moment → IsFounded (world base history moment) }
 {}
 
-/// If the base of a history keeps the limits on queues and units, so does the universe that ticks, at every moment from the last
-/// entry's on.
+/// If the base of a history keeps the limits on queues, units, levels, fields, domes, loads and fleets, so does the universe that
+/// ticks, at every moment from the last entry's on.
 pub fn worlds_keep_limits()
     ensures { (base : Universe) (history : List Entry) (moment : ℕ) → IsFounded base → KeepsLimits base.setting base.state → IsLegal base history
         → last_moment base.moment history ≤ moment → KeepsLimits base.setting (world base history moment).state }
