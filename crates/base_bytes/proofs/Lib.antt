@@ -1,3 +1,5 @@
+pub mod Counts
+pub mod Pieces
 pub mod Among
 pub mod Queued
 pub mod Owned

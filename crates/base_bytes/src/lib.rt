@@ -1,8 +1,11 @@
-//! A universe at one moment, as it lies in memory, and the laws of what it stands for.
+//! A universe at one moment, as it lies in memory, its bytes, and the laws of what it stands for.
 #![tactic(auto)]
 
 mod base;
 mod laws;
+mod numbers;
+mod writing;
 
 pub use base::{Base, MOST_IN_GROUP, MOST_REQUESTS};
 pub use laws::stands_for_a_universe;
+pub use writing::write;
