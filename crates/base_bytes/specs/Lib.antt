@@ -1,3 +1,4 @@
 pub mod Base
 pub mod Sound
+pub mod Rules
 pub mod Spelling

@@ -11,11 +11,13 @@ use Rattle.catalog.specs.Missions.{mission_number}
 use Rattle.planet_cell.specs.declared.batch.Batch.{Batch}
 use Rattle.planet_cell.specs.declared.building_item.BuildingItem.{BuildingItem}
 use Rattle.planet_cell.specs.declared.planet.Planet.{Planet}
-use Rattle.records.specs.Entries.{u8, u16, u32, u64, joined}
+use Rattle.records.specs.Columns.{place_of}
+use Rattle.records.specs.Entries.{u8, u16, u32, u64, joined, load_bytes, place_bytes}
+use Rattle.records.specs.declared.fields.Load.{Load}
 use Rattle.tick_model.specs.Universe.{Fleet}
 
 abbrev pub coord_bytes : Coord → List ℕ
-coord_bytes at = joined (u8 at.g ∷ u16 at.s ∷ u8 at.p ∷ [])
+coord_bytes at = place_bytes (place_of at)
 
 -- the 22 bytes of a technology in a queue
 abbrev pub research_bytes : ResearchItem → List ℕ
@@ -69,14 +71,16 @@ flight_bytes fleet =
     joined (u64 fleet.number ∷ u64 fleet.group ∷ u32 fleet.owner.k ∷ u8 (mission_number fleet.mission) ∷ u8 (stage_number fleet.outbound)
     ∷ coord_bytes fleet.origin ∷ coord_bytes fleet.target ∷ [])
 
--- how fast and when it flies, its cargo, and a count for each kind of ship that flies
-abbrev pub load_bytes : Fleet → List ℕ
-load_bytes fleet =
-    joined (u8 fleet.setting ∷ u64 fleet.launch ∷ u64 fleet.second
-    ∷ u64 fleet.cargo.metal ∷ u64 fleet.cargo.crystal ∷ u64 fleet.cargo.deuterium ∷ flat_map u32 fleet.ships ∷ [])
+-- how fast it flies, when it was sent, and when it arrives or is back
+abbrev pub timing_bytes : Fleet → List ℕ
+timing_bytes fleet = joined (u8 fleet.setting ∷ u64 fleet.launch ∷ u64 fleet.second ∷ [])
+
+-- its cargo, and a count for each kind of ship that flies
+abbrev pub load_of : Fleet → Load
+load_of fleet = record { metal = fleet.cargo.metal; crystal = fleet.cargo.crystal; deuterium = fleet.cargo.deuterium; ships = fleet.ships }
 
 abbrev pub fleet_bytes : Fleet → List ℕ
-fleet_bytes fleet = joined (flight_bytes fleet ∷ load_bytes fleet ∷ [])
+fleet_bytes fleet = joined (flight_bytes fleet ∷ timing_bytes fleet ∷ load_bytes (load_of fleet) ∷ [])
 
 -- the first 40 bytes: the mark, the rules, and the second at which the base stands
 abbrev pub rules_bytes : Base → List ℕ

@@ -3,9 +3,12 @@
 
 mod base;
 mod laws;
+mod limits;
 mod numbers;
+mod queues;
 mod writing;
 
 pub use base::{Base, MOST_IN_GROUP, MOST_REQUESTS};
 pub use laws::stands_for_a_universe;
+pub use limits::{MOST_FIELDS, MOST_OWNED, MOST_PLANETS, MOST_PLAYERS};
 pub use writing::write;

@@ -1,23 +1,8 @@
 // The bytes of a base, at the end of others. If memory runs out, some of them may be written.
 ghost use Rattle.std.specs.Prelude.{◌≡◌, ◌++◌, IfOk, OnOk, map};
 ghost use Rattle.std.specs.List.{flat_map};
-ghost use Rattle.base_bytes.specs.Spelling.{
-  account_bytes,
-  base_spelling,
-  batch_bytes,
-  building_bytes,
-  counts_bytes,
-  fleet_bytes,
-  flight_bytes,
-  goods_bytes,
-  ground_bytes,
-  load_bytes,
-  planet_bytes,
-  research_bytes,
-  rules_bytes,
-  stage_number,
-  works_bytes,
-};
+ghost use Rattle.base_bytes.specs.Spelling.{account_bytes, base_spelling, batch_bytes, building_bytes, counts_bytes, fleet_bytes, flight_bytes, goods_bytes, ground_bytes, load_of, planet_bytes, research_bytes, rules_bytes, stage_number, timing_bytes, works_bytes};
+ghost use Rattle.records.specs.Entries.{load_bytes};
 ghost use Rattle.fleet_rec.specs.Fleet.{fleet_seen};
 
 use crate::base::Base;
@@ -209,11 +194,12 @@ fn put_batch(out: &mut Bytes, batch: &Batch) -> Result<(), AllocError>
     put_u64(out, batch.second)
 }
 
-#[tactic(auto, using(crate::proofs::Pieces::two_pieces))]
+#[tactic(auto, using(records::proofs::Pieces::three_pieces))]
 fn put_fleet(out: &mut Bytes, fleet: &Fleet) -> Result<(), AllocError>
     ensures { OnOk result (out.new ≡ out.old ++ fleet_bytes (fleet_seen fleet.now)) }
 {
     put_flight(out, fleet)?;
+    put_timing(out, fleet)?;
     put_load(out, fleet)
 }
 
@@ -230,13 +216,19 @@ fn put_flight(out: &mut Bytes, fleet: &Fleet) -> Result<(), AllocError>
     put_coord(out, fleet.target)
 }
 
-#[tactic(auto, using(records::proofs::Pieces::seven_pieces))]
-fn put_load(out: &mut Bytes, fleet: &Fleet) -> Result<(), AllocError>
-    ensures { OnOk result (out.new ≡ out.old ++ load_bytes (fleet_seen fleet.now)) }
+#[tactic(auto, using(records::proofs::Pieces::three_pieces))]
+fn put_timing(out: &mut Bytes, fleet: &Fleet) -> Result<(), AllocError>
+    ensures { OnOk result (out.new ≡ out.old ++ timing_bytes (fleet_seen fleet.now)) }
 {
     put_u8(out, fleet.setting.p)?;
     put_u64(out, fleet.launch)?;
-    put_u64(out, fleet.second)?;
+    put_u64(out, fleet.second)
+}
+
+#[tactic(auto, using(records::proofs::Pieces::four_pieces))]
+fn put_load(out: &mut Bytes, fleet: &Fleet) -> Result<(), AllocError>
+    ensures { OnOk result (out.new ≡ out.old ++ load_bytes (load_of (fleet_seen fleet.now))) }
+{
     put_u64(out, fleet.cargo.m)?;
     put_u64(out, fleet.cargo.c)?;
     put_u64(out, fleet.cargo.d)?;
