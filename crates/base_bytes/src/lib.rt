@@ -2,10 +2,13 @@
 #![tactic(auto)]
 
 mod base;
+mod caps;
 mod laws;
 mod limits;
 mod numbers;
 mod queues;
+#[cfg(test)]
+mod tests;
 mod writing;
 
 pub use base::{Base, MOST_IN_GROUP, MOST_REQUESTS};

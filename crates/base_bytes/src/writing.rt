@@ -100,7 +100,7 @@ fn put_researches(out: &mut Bytes, items: &[ResearchItem]) -> Result<(), AllocEr
 }
 
 #[tactic(auto, using(crate::proofs::Pieces::five_pieces))]
-fn put_research(out: &mut Bytes, item: &ResearchItem) -> Result<(), AllocError>
+pub(crate) fn put_research(out: &mut Bytes, item: &ResearchItem) -> Result<(), AllocError>
     ensures { OnOk result (out.new ≡ out.old ++ research_bytes item.now) }
 {
     put_u64(out, item.number)?;
@@ -164,7 +164,7 @@ fn put_buildings(out: &mut Bytes, items: &[BuildingItem]) -> Result<(), AllocErr
 }
 
 #[tactic(auto, using(records::proofs::Pieces::four_pieces))]
-fn put_building(out: &mut Bytes, item: &BuildingItem) -> Result<(), AllocError>
+pub(crate) fn put_building(out: &mut Bytes, item: &BuildingItem) -> Result<(), AllocError>
     ensures { OnOk result (out.new ≡ out.old ++ building_bytes item.now) }
 {
     put_u64(out, item.number)?;
@@ -184,7 +184,7 @@ fn put_batches(out: &mut Bytes, batches: &[Batch]) -> Result<(), AllocError>
 }
 
 #[tactic(auto, using(crate::proofs::Pieces::five_pieces))]
-fn put_batch(out: &mut Bytes, batch: &Batch) -> Result<(), AllocError>
+pub(crate) fn put_batch(out: &mut Bytes, batch: &Batch) -> Result<(), AllocError>
     ensures { OnOk result (out.new ≡ out.old ++ batch_bytes batch.now) }
 {
     put_u64(out, batch.number)?;
