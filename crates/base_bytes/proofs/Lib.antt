@@ -1,3 +1,8 @@
+pub mod Counts
+pub mod Pieces
+pub mod Listing
+pub mod Items
+pub mod Sweeping
 pub mod Among
 pub mod Queued
 pub mod Owned

@@ -1,2 +1,4 @@
 pub mod Base
 pub mod Sound
+pub mod Rules
+pub mod Spelling

@@ -1,8 +1,17 @@
-//! A universe at one moment, as it lies in memory, and the laws of what it stands for.
+//! A universe at one moment, as it lies in memory, its bytes, and the laws of what it stands for.
 #![tactic(auto)]
 
 mod base;
+mod caps;
 mod laws;
+mod limits;
+mod numbers;
+mod queues;
+#[cfg(test)]
+mod tests;
+mod writing;
 
 pub use base::{Base, MOST_IN_GROUP, MOST_REQUESTS};
 pub use laws::stands_for_a_universe;
+pub use limits::{MOST_FIELDS, MOST_OWNED, MOST_PLANETS, MOST_PLAYERS};
+pub use writing::write;

@@ -1,14 +1,14 @@
-//! Entries of the history as bytes: 256 for each, and one spelling.
+//! Entries of the history as bytes: 256 for each, and one spelling. Numbers and values that are read from bytes.
 #![tactic(auto)]
 
 mod entries;
-mod fields;
-mod numbers;
-mod readers;
+pub mod fields;
+pub mod numbers;
+pub mod readers;
 mod requests;
 mod sheet;
 #[cfg(test)]
 mod tests;
-mod values;
+pub mod values;
 
 pub use entries::{read, write};

@@ -10,7 +10,7 @@ ghost use Rattle.records.specs.declared.fields.Place.{Place};
 use crate::fields::{Head, Load, Order, Place};
 use crate::numbers::Numbers;
 
-fn next_place(numbers: &mut Numbers) -> Place
+pub fn next_place(numbers: &mut Numbers) -> Place
     ensures { (at : Place) (more : List ℕ) → at.s < 2 ^ 16 → numbers.old.rest.now ≡ place_bytes at ++ more
         → (result ≡ at) × (numbers.new.rest.now ≡ more) }
 {
