@@ -35,6 +35,27 @@ energy 0 0\ndebris 0 0\nunits smallcargo 1\n.\n",
     Ok(())
 }
 
+/// A planet of player 1, and a small cargo and metal on a planet of player 2.
+const TWO_PLAYERS: &[u8] =
+    b"universe 7 1 1000 0\nplayer 1\nplayer 2\nplanet 1:1:1 2 40 163\nplanet 1:1:2 1 40 163\n\
+tech 2 combustion 2\nstock 1:1:1 1000 0 10\nunits 1:1:1 smallcargo 1\n.\n";
+
+#[test]
+fn a_transport_unloads_at_a_planet_of_somebody_else(rt: HostRuntime) -> Result<(), Fail> {
+    let told: Answers = (
+        b"@0 2 send 1:1:1 1:1:2 transport 10 smallcargo=1 1000 0 0\n@4539 1 planet 1:1:2\n@4539 2 fleets\n\
+@9078 2 planet 1:1:1\n",
+        b"ok 1 0\narrives 4539 fuel 2\n.\n\
+ok 2 4539\nplanet 1:1:2 1 40 163 0\nstock 1525 512 0\nhourly 20 10 0\nlimit 10000 10000 10000\n\
+energy 0 0\ndebris 0 0\n.\n\
+ok 3 4539\nfleet 1 1 transport 1:1:1 1:1:2 back 9078 0 0 0 smallcargo=1\n.\n\
+ok 4 9078\nplanet 1:1:1 2 40 163 0\nstock 50 25 8\nhourly 20 10 0\nlimit 10000 10000 10000\n\
+energy 0 0\ndebris 0 0\nunits smallcargo 1\n.\n",
+    );
+    assert!(rt; is_told(rt.alloc(), TWO_PLAYERS, told)?);
+    Ok(())
+}
+
 #[test]
 fn a_recalled_fleet_turns_back_with_its_cargo(rt: HostRuntime) -> Result<(), Fail> {
     let told: Answers = (
