@@ -30,7 +30,7 @@ def answer_name(request, answer):
         return f"{form} no {first[3]}"
     if first[0] == "bad":
         return f"{form} {answer[0]}"
-    order = answer[1].split(" ")[0] if form in ("build", "research", "yard", "send", "recall") else "ok"
+    order = answer[1].split(" ")[0] if form in ("build", "research", "yard", "send", "join", "recall") else "ok"
     return f"{form} {order}"
 
 

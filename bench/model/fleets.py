@@ -26,7 +26,14 @@ class Fleet:
     second: int
     cargo: list
     ships: Counter
+    group: int = 0
     stage: str = OUT
+
+    def __post_init__(self):
+        self.group = self.group or self.number
+
+    def attacks(self):
+        return self.stage == OUT and self.mission == "attack"
 
     def landing(self):
         return self.target if self.stage == OUT else self.origin
@@ -35,7 +42,7 @@ class Fleet:
         self.stage, self.second = BACK, second
 
     def line_words(self):
-        course = [self.number, self.number, self.mission, place_text(self.origin), place_text(self.target)]
+        course = [self.number, self.group, self.mission, place_text(self.origin), place_text(self.target)]
         return [*course, self.stage, self.second, *self.cargo, ships_text(self.ships)]
 
 

@@ -1,4 +1,4 @@
-"""Draws an input for `model.py dump`: a founding text and a script of all ten forms.
+"""Draws an input for `model.py dump`: a founding text and a script of all eleven forms.
 
     generate.py SEED LINES > INPUT
 
@@ -18,6 +18,7 @@ PLAYERS = [1, 2, 300]
 STRANGER = 4711
 EMPTY_PLACE = "4:4:4"
 PLACES = ["1:2:15", "1:10:1", "1:10:2", "1:10:3", "1:10:7", "1:10:15", "1:499:15", "2:1:1", "9:499:15"]
+WARRIORS = ["lightfighter", "heavyfighter", "cruiser", "recycler", "recycler"]
 RICH, MIDDLE, POOR, NEW = "rich", "middle", "poor", "new"
 HIGHEST_LEVELS = {RICH: 14, MIDDLE: 8, POOR: 3, NEW: 1}
 STOCKS = {RICH: (10**5, 10**8), MIDDLE: (3000, 60000), POOR: (0, 900)}
@@ -43,7 +44,7 @@ def technology_lines(rng, player):
     if player != 2:
         for word in sorted({"shielding", *rng.sample(TECHNOLOGIES[:-1], rng.randint(3, 10))} - {"computer"}):
             yield f"tech {player} {word} {rng.randint(1, 12)}"
-        yield f"tech {player} computer {rng.choice([2, 3, 5])}"
+        yield f"tech {player} computer {rng.choice([3, 5, 9])}"
 
 
 def graviton_planet_lines(place):
@@ -78,7 +79,7 @@ def planet_lines(rng, place, owner, free_fields):
     for word, level in levels.items():
         yield f"level {place} {word} {level}"
     if wealth != NEW:
-        for unit in {*rng.sample(UNITS, rng.randint(1, 4)), "probe", rng.choice(["smallcargo", "largecargo"])}:
+        for unit in {*rng.sample(UNITS, rng.randint(1, 4)), "probe", rng.choice(["smallcargo", "largecargo"]), *rng.sample(WARRIORS, 2)}:
             yield f"units {place} {unit} {1 if unit in DOMES else rng.choice([1, 7, 30, 700])}"
 
 
@@ -366,12 +367,17 @@ def errand(script, origin, target, ships, setting):
     return seconds, flight_fuel(way, levels, ships, setting)
 
 
+def missions_for(own, ships):
+    harvest = ["harvest"] * 3 if ships["recycler"] else []
+    return ["transport", "deploy", *harvest] if own else ["transport", "attack", "attack", *harvest]
+
+
 def send_from(script, origin, target, reading=None):
     rng = script.rng
     ships, setting = some_ships(script, origin), rng.choice([10, 10, 10, 5, 1])
     seconds, fuel = errand(script, origin, target, ships, setting)
     own = script.run.universe.planets[target].owner == origin.owner
-    mission = rng.choice(["transport", "deploy"] if own or rng.random() < 0.1 else ["transport"])
+    mission = rng.choice(missions_for(own or rng.random() < 0.1, ships))
     cargo = some_cargo(script, origin, ships, fuel)
     if reading == "meeting":
         ends = [event[0] for event in script.run.universe.events() if event[0] - seconds >= script.now()]
@@ -415,6 +421,8 @@ def send_wrongly(script):
         f"{place} {EMPTY_PLACE} transport 10 {ship}=1 0 0 0",
         f"{place} {place} deploy 10 {ship}=1 0 0 0",
         f"{place} {rng.choice(foreign)} deploy 10 {ship}=1 0 0 0",
+        f"{place} {near} harvest 10 {'probe' if ship == 'recycler' else ship}=1 0 0 0",
+        f"{place} {rng.choice(script.places_of(origin.owner))} attack 10 {ship}=1 0 0 0",
         f"{place} {near} transport 10 {ship}=1 {MOST_STOCK} 0 0",
         f"{place} {near} transport 10 {ship}=1 0 0 {max(0, room({ship: 1}) - 900)}",
         f"{EMPTY_PLACE} {near} transport 10 {ship}=1 0 0 0",
@@ -422,6 +430,90 @@ def send_wrongly(script):
     ]
     for tail in rng.sample(tails, 4):
         script.say(rng.choice([origin.owner] * 9 + [STRANGER]), f"send {tail}", script.now())
+
+
+def foreign_to(script, origin):
+    """A planet of somebody else, mostly of the same system."""
+    others = [it for it in script.run.universe.planets.values() if it.owner != origin.owner]
+    near = [it for it in others if it.place[:2] == origin.place[:2]]
+    return script.rng.choice(near if near and script.rng.random() < 0.9 else others)
+
+
+def attack(script):
+    """A fleet attacks, and others may join it."""
+    origin = flyers(script)
+    if not origin:
+        return
+    ships = some_ships(script, origin)
+    words = ["send", text(origin.place), text(foreign_to(script, origin).place), "attack", script.rng.choice([1, 1, 2, 5, 10])]
+    script.say(origin.owner, " ".join(map(str, [*words, ships_text(ships), 0, 0, script.rng.choice([0, 0, 5])])), script.now())
+    for _ in range(script.rng.choice([0, 1, 1, 2, 3])):
+        join(script)
+
+
+def raids(script):
+    return [fleet for fleet in script.run.universe.fleets if fleet.attacks()]
+
+
+def join(script):
+    """A fleet joins a group, mostly one that flies out to attack, and mostly in time."""
+    rng, some = script.rng, raids(script)
+    origin = flyers(script)
+    if not some or not origin:
+        return
+    raid = rng.choice(some)
+    if script.run.universe.planets[raid.target].owner == origin.owner and rng.random() < 0.8:
+        return
+    ships = some_ships(script, origin)
+    setting = rng.choice([10, 10, 10, 1])
+    cargo = rng.choice([[0, 0, 0]] * 6 + [[0, 1, 2], [room(ships), 0, 0], [MOST_STOCK, 0, 0]])
+    target = raid.target if rng.random() < 0.9 else target_of(script, origin)
+    group = raid.group if rng.random() < 0.95 else script.run.last_number
+    words = ["join", group, text(origin.place), text(target), setting, ships_text(ships), *cargo]
+    reading = rng.choice([script.now(), script.now(), None])
+    script.say(origin.owner, " ".join(map(str, words)), reading)
+
+
+def join_wrongly(script):
+    """One that is refused for nearly each reason."""
+    rng, some = script.rng, raids(script)
+    if not some:
+        return attack(script)
+    raid = rng.choice(some)
+    group, place = raid.group, text(raid.target)
+    victim = script.run.universe.planets[raid.target].owner
+    for origin in script.run.universe.planets.values():
+        ship = next((ship for ship in SHIPS if origin.units[ship] > 0), "probe")
+        home = text(origin.place)
+        if origin.owner == victim or rng.random() < 0.4:
+            tail = rng.choice([f"{ship}={origin.units[ship] + 1} 0 0 0", f"{ship}=1 {MOST_STOCK} 0 0", f"{ship}=1 0 0 0", f"{ship}=1 0 0 {room({ship: 1})}"])
+            script.say(origin.owner, f"join {group} {home} {place} 10 {tail}", script.now())
+    script.say(rng.choice(PLAYERS + [STRANGER]), f"join {group + 1} {text(raid.origin)} {place} 10 probe=1 0 0 0", script.now())
+
+
+def crowd(script):
+    """More fleets than a group may have."""
+    origin = flyers(script, script.rng.choice([1, 300]))
+    ship = origin and next((ship for ship in SHIPS if origin.units[ship] > 10), None)
+    if not ship:
+        return
+    target = text(foreign_to(script, origin).place)
+    script.say(origin.owner, f"send {text(origin.place)} {target} attack 3 {ship}=1 0 0 0", script.now())
+    group = script.run.last_number
+    for _ in range(9):
+        script.say(origin.owner, f"join {group} {text(origin.place)} {target} 10 {ship}=1 0 0 0", script.now())
+
+
+def harvest(script):
+    """Debris is taken, where there is some."""
+    universe = script.run.universe
+    fields = [planet for planet in universe.planets.values() if any(planet.debris)]
+    homes = [planet for planet in universe.planets.values() if planet.units["recycler"]]
+    if fields and homes:
+        origin, target = script.rng.choice(homes), script.rng.choice(fields)
+        count = script.rng.randint(1, origin.units["recycler"])
+        tail = f"harvest 10 recycler={count} {script.rng.choice([0, 0, 7])} 0 0"
+        script.say(origin.owner, f"send {text(origin.place)} {text(target.place)} {tail}")
 
 
 def recall(script):
@@ -462,12 +554,16 @@ def ask_wrongly(script):
         script.say(stranger_to_it, f"{form} {script.rng.choice(script.places_of(player))}{word}")
 
 
+    for place in (EMPTY_PLACE, script.rng.choice(script.places_of(player))):
+        script.say(stranger_to_it, f"join 1 {place} 1:10:1 10 probe=1 0 0 0")
+
+
 def bad_line(script):
     lines = [
         "",
         "@5 1 fleets 1",
-        "@5 1 join 1 1:10:1 1:10:2 10 probe=1 0 0 0",
-        "@5 1 send 1:10:1 1:10:2 attack 10 probe=1 0 0 0",
+        "@5 1 join 0 1:10:1 1:10:2 10 probe=1 0 0 0",
+        "@5 1 send 1:10:1 1:10:2 raid 10 probe=1 0 0 0",
         "@5 1 send 1:10:1 1:10:2 transport 10 probe=1,smallcargo=1 0 0 0",
         "@5 1 recall 0",
         "@5 1 planet 1:1:16",
@@ -514,6 +610,11 @@ SCENES = {
     send_to_meet: 5,
     send_often: 4,
     send_wrongly: 2.5,
+    attack: 9,
+    join: 5,
+    join_wrongly: 2,
+    crowd: 3,
+    harvest: 3,
     recall: 5,
     ask_fleets: 5,
     bad_line: 2,

@@ -89,7 +89,8 @@ FORMS = {
     "set": [coordinate, one_of(WORKS), from_to(0, 10)],
     "fleets": [],
     "system": [system],
-    "send": [coordinate, coordinate, one_of(["transport", "deploy"]), from_to(1, 10), some_ships, amount, amount, amount],
+    "send": [coordinate, coordinate, one_of(["transport", "deploy", "harvest", "attack"]), from_to(1, 10), some_ships, amount, amount, amount],
+    "join": [from_to(1, LAST_SECOND), coordinate, coordinate, from_to(1, 10), some_ships, amount, amount, amount],
     "recall": [from_to(1, LAST_SECOND)],
 }
 
@@ -132,8 +133,8 @@ class Founding:
         words = first_line.split(" ")
         demand(words[0] == "universe")
         readers = [from_to(0, 2**64 - 1), from_to(1, 100), from_to(1, 262144), from_to(0, LAST_SECOND)]
-        _, speed, _, moment = read_words(words[1:], readers)
-        self.universe = Universe(speed, moment)
+        seed, speed, _, moment = read_words(words[1:], readers)
+        self.universe = Universe(seed, speed, moment)
         self.said = set()
 
     def say_once(self, *what):
@@ -280,9 +281,13 @@ class Run:
         asks = {"fleets": universe.ask_fleets, "system": universe.ask_system, "recall": universe.recall}
         if form in asks:
             return asks[form](player, *words)
-        if form == "send":
-            return universe.send(self.last_number, player, *words)
-        orders = {"build": universe.order_building, "research": universe.order_research, "yard": universe.order_units}
+        orders = {
+            "build": universe.order_building,
+            "research": universe.order_research,
+            "yard": universe.order_units,
+            "send": universe.send,
+            "join": universe.join,
+        }
         return orders[form](self.last_number, player, *words)
 
     def touched_cells(self, moment, player, form, words):
@@ -304,7 +309,7 @@ class Run:
             fleets = self.stands["account", player].fleets
             flown = [link for link in fleets if link.number == words[0] and link.owner == player and link.outbound]
             return [cell for link in flown for cell in link.cells]
-        return [("planet", place) for place in words[:2] if isinstance(place, tuple) and place in planets]
+        return [("planet", place) for place in words[:3] if isinstance(place, tuple) and place in planets]
 
     def needed_cells(self, cell, moment):
         """The owner of a planet, the planets of research that waits, and the cells of fleets that land, by the last touch."""

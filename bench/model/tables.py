@@ -19,6 +19,8 @@ class Kind:
         self.growth = growth
         self.cap = cap
         self.cargo = 0
+        self.attack = 0
+        self.shield = 0
         self.engines = []
         self.needed_building = None
         self.needed_technologies = []
@@ -51,6 +53,7 @@ def kind_of(row):
     if number <= 34:
         return Kind(number, word, first_cost, (2, 1), int(row[5]))
     unit = Kind(number, word, first_cost, (1, 1), None)
+    unit.attack, unit.shield = numbers(row[5:7])
     unit.cargo = int(row[7]) if len(row) == 8 else 0
     return unit
 
@@ -83,6 +86,18 @@ def read_needs(row, kinds):
     kind.needed_technologies = [(word, int(level)) for word, level in WORD_AND_LEVEL.findall(row[2])]
 
 
+def is_rapid(row):
+    return len(row) == 2 and row[0].startswith("`") and re.match("[0-9]+: `", row[1])
+
+
+def read_rapid_fire(row):
+    for part in row[1].split("; "):
+        times, targets = part.split(": ")
+        for shooter in WORD.findall(row[0]):
+            for target in WORD.findall(targets):
+                yield (shooter, target), int(times)
+
+
 def read_tables():
     rows = list(table_rows())
     kinds = {kind.word: kind for kind in map(kind_of, filter(is_kind, rows))}
@@ -91,10 +106,11 @@ def read_tables():
     for row in filter(is_engine, rows):
         read_engine(row, kinds)
     limits = dict(numbers(row) for row in rows if is_limit(row))
-    return kinds, limits
+    rapid_fire = dict(pair for row in rows if is_rapid(row) for pair in read_rapid_fire(row))
+    return kinds, limits, rapid_fire
 
 
-KINDS, LIMITS = read_tables()
+KINDS, LIMITS, RAPID_FIRE = read_tables()
 BUILDINGS = [word for word, kind in KINDS.items() if kind.number <= 11]
 TECHNOLOGIES = [word for word, kind in KINDS.items() if 21 <= kind.number <= 34]
 UNITS = [word for word, kind in KINDS.items() if kind.number >= 41]

@@ -3,6 +3,7 @@
 from collections import Counter
 from dataclasses import dataclass, field
 
+from battle import Part, debris_of, fight, fitting, loot, rebuilt, scraped
 from fleets import BACK, OUT, Fleet, distance, flight_fuel, flight_seconds, place_text, room
 from tables import BUILDINGS, DOMES, KINDS, LIMITS, STORES, TECHNOLOGIES, UNITS, WORKS
 
@@ -10,6 +11,8 @@ GRAINS = 3600
 QUEUE_LENGTH = 5
 MOST_UNITS = 100000
 MOST_STOCK = 4 * 10**12
+MOST_IN_GROUP = 8
+SCOOP = 20000
 GRAVITON_ENERGY = 300000
 
 
@@ -60,6 +63,7 @@ class Planet:
     temperature: int
     fields: int
     grains: list = field(default_factory=lambda: [500 * GRAINS, 500 * GRAINS, 0])
+    debris: list = field(default_factory=lambda: [0, 0])
     levels: Counter = field(default_factory=Counter)
     tenths: dict = field(default_factory=lambda: dict.fromkeys(WORKS, 10))
     units: Counter = field(default_factory=Counter)
@@ -134,7 +138,8 @@ class Account:
 
 
 class Universe:
-    def __init__(self, speed, moment):
+    def __init__(self, seed, speed, moment):
+        self.seed = seed
         self.speed = speed
         self.moment = moment
         self.accounts = {}
@@ -188,13 +193,18 @@ class Universe:
         for account in self.accounts.values():
             if account.research:
                 yield account.research[0].second, account.research[0].number, 2, account
+        groups = set()
         for fleet in self.fleets:
-            yield fleet.second, fleet.number, 4 if fleet.stage == OUT else 6, fleet
+            if not fleet.attacks():
+                yield fleet.second, fleet.number, 4 if fleet.stage == OUT else 6, fleet
+            elif fleet.group not in groups:
+                groups.add(fleet.group)
+                yield fleet.second, fleet.group, 5, fleet
 
     def events_happen(self):
         due = sorted((event for event in self.events() if event[0] == self.moment), key=lambda event: event[:3])
         self.seen["second of several events"] += len(due) > 1
-        steps = {1: self.building_done, 2: self.research_done, 3: self.unit_done, 4: self.arrive, 6: self.come_back}
+        steps = {1: self.building_done, 2: self.research_done, 3: self.unit_done, 4: self.arrive, 5: self.battle, 6: self.come_back}
         for _, _, step, owner in due:
             steps[step](owner)
         self.note(due)
@@ -202,7 +212,7 @@ class Universe:
     def note(self, due):
         """What a comparison is to have met."""
         kinds = [step for _, _, step, _ in due]
-        landings = [fleet.landing() for _, _, step, fleet in due if step >= 4]
+        landings = [owner for _, _, step, owner in due if step >= 4]
         self.seen["landing and another event in one second"] += bool(landings) and len(due) > 1
         self.seen["landing and item in one second"] += bool(landings) and min(kinds) < 4
 
@@ -268,6 +278,8 @@ class Universe:
     def arrive(self, fleet):
         """A fleet arrives at its target: a transport turns back, empty, and a deployed fleet stays."""
         target = self.planets[fleet.target]
+        if fleet.mission == "harvest":
+            return self.harvest(fleet, target)
         full = MOST_STOCK * GRAINS
         self.seen["stock full"] += any(part * GRAINS + grains > full for part, grains in zip(fleet.cargo, target.grains))
         target.take(fleet.cargo)
@@ -276,6 +288,50 @@ class Universe:
             return self.stay(fleet, target)
         fleet.cargo = [0, 0, 0]
         fleet.turn_back(fleet.second + (fleet.second - fleet.launch))
+
+    def harvest(self, fleet, target):
+        """A fleet takes debris from around its target, whoever owns that, and turns back."""
+        free = min(room(fleet.ships) - sum(fleet.cargo), SCOOP * fleet.ships["recycler"])
+        taken = scraped(free, target.debris)
+        self.seen["harvest of all" if taken == target.debris else "harvest of a part"] += 1
+        target.debris = [there - part for there, part in zip(target.debris, taken)]
+        fleet.cargo = [part + more for part, more in zip(fleet.cargo, [*taken, 0])]
+        fleet.turn_back(fleet.second + (fleet.second - fleet.launch))
+
+    def battle(self, first):
+        """The fleets of a group fight at their target."""
+        target = self.planets[first.target]
+        raid = [fleet for fleet in self.fleets if fleet.attacks() and fleet.group == first.group]
+        parts = [Part(self.accounts[fleet.owner].levels, fleet.ships) for fleet in raid]
+        home = Part(self.accounts[target.owner].levels, target.units)
+        lefts, left, won = fight(parts, home, self.seed, first.group)
+        self.seen[f"battle of {min(len(raid), 3)} fleets, {'won' if won else 'not won'}"] += 1
+        lost = [fleet.ships - kept for fleet, kept in zip(raid, lefts)]
+        home_lost = target.units - left
+        self.seen["battle with losses of both"] += bool(home_lost) and any(lost)
+        littered = debris_of(sum([*lost, home_lost], Counter()))
+        target.debris = [min(there + part, MOST_STOCK) for there, part in zip(target.debris, littered)]
+        target.units = left + rebuilt(home_lost)
+        for fleet, kept in zip(raid, lefts):
+            fleet.ships = kept
+            fleet.cargo = fitting(room(kept), fleet.cargo)
+        self.fleets = [fleet for fleet in self.fleets if fleet.ships]
+        survivors = [fleet for fleet in raid if fleet.ships]
+        if won:
+            self.plunder(survivors, target)
+        for fleet in survivors:
+            fleet.turn_back(fleet.second + (fleet.second - fleet.launch))
+
+    def plunder(self, fleets, target):
+        """Fleets take at most half of the stocks. Each loads what it has room for."""
+        free = [room(fleet.ships) - sum(fleet.cargo) for fleet in fleets]
+        taken = loot(sum(free), [stock // 2 for stock in target.stock()])
+        target.pay(taken)
+        self.seen["loot"] += any(taken)
+        for fleet, space in zip(fleets, free):
+            part = fitting(space, taken)
+            taken = [there - loaded for there, loaded in zip(taken, part)]
+            fleet.cargo = [old + loaded for old, loaded in zip(fleet.cargo, part)]
 
     def come_back(self, fleet):
         self.seen["back with cargo" if any(fleet.cargo) else "back"] += 1
@@ -370,26 +426,41 @@ class Universe:
     def ask_system(self, player, system):
         self.known(player)
         planets = [planet for place, planet in sorted(self.planets.items()) if place[:2] == system]
-        return [line("at", text(planet.place), planet.owner, 0, 0) for planet in planets]
+        return [line("at", text(planet.place), planet.owner, *planet.debris) for planet in planets]
 
     def send(self, number, player, origin, target, mission, setting, ships, *cargo):
+        return self.leave(number, player, origin, target, mission, setting, ships, cargo)
+
+    def join(self, number, player, group, origin, target, setting, ships, *cargo):
+        return self.leave(number, player, origin, target, "attack", setting, ships, cargo, group)
+
+    def leave(self, number, player, origin, target, mission, setting, ships, cargo, group=0):
+        """A fleet leaves, alone or with a group, and arrives then with that."""
         planet, there = self.own_planet(player, origin), self.planets.get(target)
         levels, way = self.accounts[player].levels, distance(origin, target)
         fuel = flight_fuel(way, levels, ships, setting)
         price = [cargo[0], cargo[1], cargo[2] + fuel]
+        second = self.moment + flight_seconds(way, levels, ships, setting, self.speed)
+        raid = [fleet for fleet in self.fleets if fleet.attacks() and fleet.group == group and fleet.target == target]
         refuse_first([
+            (13, group and not raid),
+            (16, len(raid) >= MOST_IN_GROUP),
             (8, any(planet.units[ship] < count for ship, count in ships.items())),
-            (9, there is None or target == origin or (mission == "deploy" and there.owner != player)),
+            (9, there is None or target == origin or not self.suits(mission, there.owner == player, ships)),
             (10, len(self.fleets_of(player)) >= self.slots_of(player)),
+            (15, raid and second > raid[0].second),
             (11, sum(price) > room(ships)),
             (12, not planet.can_pay(price)),
         ])
         planet.pay(price)
         planet.units.subtract(ships)
-        second = self.moment + flight_seconds(way, levels, ships, setting, self.speed)
-        fleet = Fleet(number, player, mission, origin, target, there.owner, self.moment, second, list(cargo), ships)
+        second = raid[0].second if raid else second
+        fleet = Fleet(number, player, mission, origin, target, there.owner, self.moment, second, list(cargo), ships, group)
         self.fleets.append(fleet)
         return [line("arrives", second, "fuel", fuel)]
+
+    def suits(self, mission, own, ships):
+        return {"transport": True, "deploy": own, "attack": not own, "harvest": ships["recycler"] > 0}[mission]
 
     def recall(self, player, number):
         self.known(player)
@@ -426,7 +497,7 @@ class Universe:
             line("hourly", *planet.hourly(self.speed)),
             line("limit", *planet.limits()),
             line("energy", *given_and_needed),
-            line("debris", 0, 0),
+            line("debris", *planet.debris),
             *(line("level", word, planet.levels[word]) for word in BUILDINGS if planet.levels[word]),
             *(line("set", work, planet.tenths[work]) for work in WORKS if planet.tenths[work] != 10),
             *(line("units", unit, planet.units[unit]) for unit in UNITS if planet.units[unit]),

@@ -85,6 +85,18 @@ def all_home():
     return in_flight(asked, True)
 
 
+def battle(raiders, ships, defences):
+    """So many players attack one planet in one group, and one question comes long after it."""
+    attackers = range(2, raiders + 2)
+    lines = ["player 1", "planet 1:1:15 1 40 163", f"units 1:1:15 launcher {defences}"]
+    for number in attackers:
+        at = f"1:1:{number - 1}"
+        lines += [f"player {number}", f"planet {at} {number} 40 163", f"stock {at} 0 0 4000000000", f"units {at} lightfighter {ships}"]
+    orders = ["send 1:1:1 1:1:15 attack 1"] + [f"join 1 1:1:{number - 1} 1:1:15 10" for number in attackers[1:]]
+    flown = [f"@0 {number} {order} lightfighter={ships} 0 0 0" for number, order in zip(attackers, orders)]
+    return ["universe 7 1 1000 0"] + lines + ["."] + flown + [f"@{LATE} 1 planet 1:1:15"]
+
+
 CASES = [
     ("founding 10000 players and 20000 planets", lambda: founding(10000)),
     ("and 200000 questions at one planet", lambda: founding(10000) + questions_at_one(200000)),
@@ -99,6 +111,9 @@ CASES = [
     ("10000 fleets fly and are home, each target is asked", all_home),
     ("100000 launchers, asked 10^9 s later", lambda: batch("launcher", 100000)),
     ("100000 satellites, asked 10^9 s later", lambda: batch("satellite", 100000)),
+    ("1 fleet of 1000 light fighters attacks 1000 launchers, asked 10^9 s later", lambda: battle(1, 1000, 1000)),
+    ("1 fleet of 100000 attacks 100000", lambda: battle(1, 100000, 100000)),
+    ("8 fleets of 100000 attack 100000", lambda: battle(8, 100000, 100000)),
 ]
 
 

@@ -27,7 +27,7 @@ pub struct Account {
 }
 
 impl Account {
-    ghost use Rattle.std.specs.Prelude.{◌≡◌, ◌+◌, ◌≤◌, IfOk};
+    ghost use Rattle.std.specs.Prelude.{◌≡◌, ◌+◌, ◌-◌, ◌≤◌, IfOk};
     ghost use Rattle.account_cell.specs.Account.{AreSame, KeepsResearch};
     ghost use Rattle.catalog.specs.declared.ships.TheConstants.{UNITS};
 
@@ -51,5 +51,14 @@ impl Account {
         ensures keeps { KeepsResearch self.old self.new }
     {
         self.units += count;
+    }
+
+    /// The account has so many fewer units: they were lost in a battle.
+    pub fn lose_units(&mut self, count: u32)
+        requires { count ≤ self.old.units }
+        ensures units { self.new.units ≡ self.old.units - count }
+        ensures keeps { KeepsResearch self.old self.new }
+    {
+        self.units -= count;
     }
 }

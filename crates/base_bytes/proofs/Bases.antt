@@ -10,7 +10,7 @@ use Rattle.base_bytes.specs.Base.{all_items, own_of, planet_items, setting_of, u
 use Rattle.base_bytes.specs.Sound.{IsSound, RunsAfter, places_owned}
 use Rattle.base_bytes.specs.declared.base.Base.{Base}
 use Rattle.base_bytes.proofs.Among.{from-flat, from-map, has-place, is-among, pairs-first, pairs-later}
-use Rattle.base_bytes.proofs.Flying.{each-fleet, fleet-flies, fleets-apart, owned-by, stands-here}
+use Rattle.base_bytes.proofs.Flying.{each-fleet, fleet-flies, fleets-apart, fleets-rise, fleets-together, owned-by, stands-here}
 use Rattle.base_bytes.proofs.Once.{named-once}
 use Rattle.base_bytes.proofs.Owned.{account-listed, planet-come, there-listed}
 use Rattle.base_bytes.proofs.Queued.{account-queue, item-cell, planet-queue, research-is}
@@ -27,9 +27,10 @@ use Rattle.planet_cell.specs.declared.planet.Planet.{Planet}
 use Rattle.tick_model.proofs.Lists.{any-none, from-filter, in-append}
 use Rattle.tick_model.proofs.Queues.{IsQueued, queued-in}
 use Rattle.tick_model.proofs.Units.{unit-place}
-use Rattle.tick_model.specs.Events.{Event, item_due, lands, home, Owes, second_of}
+use Rattle.tick_model.specs.Events.{Event, item_due, lands, fights, home, Owes, second_of}
 use Rattle.tick_model.specs.Flights.{landing}
 use Rattle.tick_model.specs.Game.{game}
+use Rattle.tick_model.specs.Raids.{Raid}
 use Rattle.tick_model.specs.Rules.{AreDistinct, IsIn, IsPlaced, KeepsRules, same_order}
 use Rattle.tick_model.specs.Universe.{of_planet, Item, PlanetFields, QueueClass, Buildings, Researches, Yard}
 use Rattle.tick_model.specs.Views.{belongs, queue_in, view}
@@ -156,6 +157,9 @@ keeps-rules base sound =
       flying = λ fleet is. fleet-flies base fleet sound is;
       sent = λ fleet is. (each-fleet base fleet sound is).drawn.1;
       apart = fleets-apart base.fleets sound.fleets_rise;
+      rise = fleets-rise base.fleets sound.fleets_rise;
+      together = fleets-together base.fleets sound.together;
+      few = sound.few;
     }
 
 -- what runs first in a queue comes due past the moment
@@ -187,9 +191,14 @@ none-due base sound (item_due class item later) owes due =
     let past = first-runs _ base.moment item later owes (runs-at base item.cell class sound (queue-of base item.cell class item later owes)) in
     omega (arith, past, due)
 none-due base sound (lands fleet) owes due =
-    let among = from-filter (belongs (PlanetId (landing fleet))) fleet base.fleets owes in
+    let among = from-filter (belongs (PlanetId (landing fleet))) fleet base.fleets owes.0 in
     let past = (each-fleet base fleet sound among.0).lands in
     omega (arith, past, due)
+none-due base sound (fights raid) owes due =
+    let among = from-filter (belongs (PlanetId raid.target)) owes.one base.fleets owes.flies in
+    let past = (each-fleet base owes.one sound among.0).lands in
+    let same : raid.second ≡ owes.one.second = ap (λ (r : Raid). r.second) owes.is in
+    omega (arith, past, due, same)
 
 pub sound-base : (base : Base) → IsSound base → IsBase (game (setting_of base)) (base_of (universe_of base))
 sound-base base sound = record { fine = keeps-rules base sound; none = λ event owes inside due. none-due base sound event owes due }

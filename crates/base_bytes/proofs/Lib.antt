@@ -3,6 +3,7 @@ pub mod Pieces
 pub mod Listing
 pub mod Items
 pub mod Sweeping
+pub mod Fronts
 pub mod Among
 pub mod Queued
 pub mod Owned

@@ -2,3 +2,4 @@ pub mod Base
 pub mod Sound
 pub mod Rules
 pub mod Spelling
+pub mod Told

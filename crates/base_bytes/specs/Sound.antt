@@ -5,7 +5,6 @@ use Rattle.account_cell.specs.Account.{account_fields, research_of}
 use Rattle.account_cell.specs.declared.account.Account.{Account}
 use Rattle.base_bytes.specs.Base.{all_items}
 use Rattle.base_bytes.specs.declared.base.Base.{Base}
-use Rattle.base_bytes.specs.declared.base.TheConstants.{MOST_IN_GROUP}
 use Rattle.base_ids.specs.Cells.{same_coord, same_player}
 use Rattle.base_ids.specs.Order.{coord_before, player_before}
 use Rattle.base_ids.specs.declared.coord.Coord.{Coord}
@@ -17,9 +16,13 @@ use Rattle.catalog.specs.declared.ships.TheConstants.{SHIPS}
 use Rattle.flight.specs.Freight.{capacity_of}
 use Rattle.planet_cell.specs.Planet.{batches_of, buildings_of, fields_of, queue_of}
 use Rattle.planet_cell.specs.declared.planet.Planet.{Planet}
-use Rattle.tick_model.specs.Limits.{cargo_units, KeepsLevels, KeepsTechs}
+use Rattle.reply_text.specs.declared.units.Units.{Units}
+use Rattle.tick_model.specs.declared.codes.TheConstants.{MOST_IN_GROUP}
+use Rattle.tick_model.specs.Limits.{KeepsLevels, KeepsTechs}
+use Rattle.tick_model.specs.Flights.{cargo_units}
 use Rattle.tick_model.specs.Lines.{own_fleets, slots_of}
-use Rattle.tick_model.specs.Rules.{same_order}
+use Rattle.tick_model.specs.Raids.{outbound_in}
+use Rattle.tick_model.specs.Rules.{ArriveTogether, same_order}
 use Rattle.tick_model.specs.Sending.{suits}
 use Rattle.tick_model.specs.Universe.{Fleet, Item}
 use Rattle.tick_model.specs.Views.{ships_of, units_left}
@@ -53,15 +56,6 @@ HasSlots fleets account = length (own_fleets account.player fleets) ≤ slots_of
 abbrev pub IsInGroup : Mission → ℕ → ℕ → Type 0
 IsInGroup Attack number group = (1 ≤ group) × (group ≤ number)
 IsInGroup _ number group = group ≡ number
-
--- the fleets that fly out in a group
-abbrev pub outbound_in : ℕ → List Fleet → List Fleet
-outbound_in group fleets = filter (λ fleet. fleet.outbound && fleet.group == group) fleets
-
--- if two fleets fly out in one group, they arrive at one place in one second
-abbrev pub ArriveTogether : Fleet → Fleet → Type 0
-ArriveTogether first second =
-    first.outbound ≡ true → second.outbound ≡ true → first.group ≡ second.group → (first.target ≡ second.target) × (first.second ≡ second.second)
 
 -- A fleet has the number of a request, and flies in a group. It flies from a planet of its owner to another planet, of the player whom it
 -- names; its mission suits that player and its ships. It has ships, and no more cargo than they carry. It was sent by the moment,

@@ -11,9 +11,6 @@ use planet_cell::Planet;
 /// The most requests that the history of a universe may keep.
 pub const MOST_REQUESTS: u32 = 262144;
 
-/// The most fleets that fly out in one group.
-pub const MOST_IN_GROUP: usize = 8;
-
 /// A universe at one moment, in memory: the seed of all draws; the speed of its economy, 1 to `catalog::TOP_SPEED`; how many
 /// requests its history may keep, 1 to `MOST_REQUESTS`; the second at which all of it stands, at most `ports::LATEST`; the number
 /// of the last request, at most `base_ids::LAST_NUMBER`; its accounts by player; its planets by coordinate; and its fleets by number.

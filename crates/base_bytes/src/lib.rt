@@ -1,8 +1,10 @@
 //! A universe at one moment, as it lies in memory, its bytes, and the laws of what it stands for.
 #![tactic(auto)]
 
+mod accounts;
 mod base;
 mod caps;
+mod fields;
 mod laws;
 mod limits;
 mod numbers;
@@ -11,7 +13,7 @@ mod queues;
 mod tests;
 mod writing;
 
-pub use base::{Base, MOST_IN_GROUP, MOST_REQUESTS};
+pub use base::{Base, MOST_REQUESTS};
 pub use laws::stands_for_a_universe;
 pub use limits::{MOST_FIELDS, MOST_OWNED, MOST_PLANETS, MOST_PLAYERS};
 pub use writing::write;

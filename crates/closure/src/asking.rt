@@ -76,13 +76,12 @@ fn add_named(places: &Places, req: &Request, ids: &mut Ids) -> Result<(), AllocE
         | Request::Research(at, _)
         | Request::Yard(at, _, _)
         | Request::Set(at, _, _) => add_listed(places, CellId::Planet(*at), ids),
-        Request::Send(from, to, _, _, _, _) => {
+        Request::Send(from, to, _, _, _, _) | Request::Join(_, from, to, _, _, _) => {
             add_listed(places, CellId::Planet(*from), ids)?;
             add_listed(places, CellId::Planet(*to), ids)
         }
         Request::System(system) => add_system(places, *system, ids),
-        Request::Account | Request::Fleets | Request::Join(_, _, _, _, _, _) | Request::Recall(_) =>
-            { Ok(()) }
+        Request::Account | Request::Fleets | Request::Recall(_) => Ok(()),
     }
 }
 

@@ -33,7 +33,6 @@ use Rattle.request_text.proofs.Spellings.{one_call}
 use Rattle.lazy.specs.Keeping.{Asks, Keeps, KeepsSome}
 use Rattle.lazy.specs.declared.universe.LazyUniverse.{LazyUniverse}
 use Rattle.reply_text.specs.declared.reply.Reply.{Reply}
-use Rattle.tick_model.specs.Requests.{IsBuilt}
 use Rattle.tick_model.specs.Talk.{AsksFor, AsksNothing, CameAt}
 use Rattle.tick_model.specs.Universe.{Universe}
 use Rattle.tick_model.proofs.Talks.{Told, told-nothing, told-long, told-bad, told-answered, told-unanswered, told-all}
@@ -208,10 +207,6 @@ come-broken reader reader' left more base now next whole answer count t0 t1 t2 w
     } in
     (progress.history, progress.keeps, broke)
 
--- a line that spells a call of a form that isn't built asks for nothing
-pub unbuilt : (line : List ℕ) (call : Call) → Spells true line call → (IsBuilt call.req → ⊥) → AsksNothing line
-unbuilt line call spells no_form other asks = no_form (subst (λ (c : Call). IsBuilt c.req) (one_call true line other call asks.spells spells) asks.built)
-
 -- one reading was told
 pub tells-one : (t0 t1 : Option (List ℕ)) (reading : ℕ) → TellsReading t0 t1 reading → TellsReadings t0 t1 (reading ∷ [])
 tells-one t0 None reading told = tt
@@ -241,7 +236,7 @@ call_long (Some reading) player req = words_long (64 ∷ decimal reading) (playe
 -- a line that asks for something has two bytes at least: a player's digit and a space
 pub two_bytes : (line : List ℕ) (call : Call) → AsksFor line call → 2 ≤ length line
 two_bytes line call asks =
-    let joined : line ≡ join_with_byte 32 (timed_words call.reading (player_text call.player ∷ request_words call.req)) = sym (join-parts 32 line) ∙ ap (join_with_byte 32) asks.spells.same in
+    let joined : line ≡ join_with_byte 32 (timed_words call.reading (player_text call.player ∷ request_words call.req)) = sym (join-parts 32 line) ∙ ap (join_with_byte 32) asks.same in
     subst (λ l. 2 ≤ length l) (sym joined) (call_long call.reading call.player call.req)
 
 -- a reader that stopped sees what it saw, and keeps no line feed

@@ -1,4 +1,4 @@
-ghost use Rattle.std.specs.Prelude.{◌≡◌, ◌+◌, ◌*◌, ◌≤◌, ◌<◌, ◌⊎◌, ℕ, List, [], length, MatchOption, OnOk, OnErr, IsErrOf, MatchBool};
+ghost use Rattle.std.specs.Prelude.{◌≡◌, ◌+◌, ◌*◌, ◌≤◌, ◌<◌, ◌⊎◌, ℕ, List, [], length, MatchOption, OnOk, OnErr, IsErrOf};
 ghost use Rattle.std.specs.Str.Lines.{lines as text_lines};
 ghost use Rattle.base_ids.specs.declared.numbers.TheConstants.{LAST_NUMBER};
 ghost use Rattle.ports.specs.Readings.{TellsReadings};
@@ -9,7 +9,6 @@ ghost use Rattle.request_text.specs.declared.line_reader.TheConstants.{LONGEST_L
 ghost use Rattle.request_text.specs.declared.call.Call.{Call};
 ghost use Rattle.reply_text.specs.declared.reply.Reply.{Reply};
 ghost use Rattle.lazy.specs.Keeping.{Asks, Keeps, KeepsSome};
-ghost use Rattle.tick_model.specs.Requests.{IsBuilt};
 ghost use Rattle.tick_model.specs.Talk.{AsksFor, AsksNothing, CameAt};
 ghost use Rattle.tick_model.specs.Universe.{Universe};
 ghost use Rattle.command.specs.Answers.{AnsweredAll, AnsweredPart, BrokeOff, IsTold, KeepsOne, Turns, answer_text};
@@ -18,41 +17,17 @@ ghost use Rattle.command.specs.Statuses.{HasReason, status_of};
 use crate::status::Stopped;
 use crate::streams::write_all;
 use base_text::Bytes;
-use catalog::Mission;
 use lazy::LazyUniverse;
 use ports::{Clock, Sink, Source};
 use reply_text::write_reply;
-use request_text::{Call, LineReader, Request, Told};
+use request_text::{Call, LineReader, Told};
 use std::alloc::{AllocError, Global};
-
-/// Whether requests of this form are answered today.
-fn is_answered_today(req: &Request) -> bool
-    ensures { MatchBool result (IsBuilt req.now) (IsBuilt req.now → ⊥) }
-{
-    matches!(
-        req,
-        Request::Planet(_)
-            | Request::Account
-            | Request::Fleets
-            | Request::System(_)
-            | Request::Build(..)
-            | Request::Research(..)
-            | Request::Yard(..)
-            | Request::Set(..)
-            | Request::Send(_, _, Mission::Transport | Mission::Deploy, ..)
-            | Request::Recall(_)
-    )
-}
 
 /// What a line asks for. `None` exactly if it asks for nothing.
 fn asked_for(line: &[u8]) -> Option<Call>
     ensures { MatchOption result (AsksNothing line.now) (AsksFor line.now) }
 {
-    let call = Call::read(line, true)?;
-    if !is_answered_today(&call.req) {
-        return None;
-    }
-    Some(call)
+    Call::read(line, true)
 }
 
 /// The reading at which a call came: the one that it names, else the clock's.

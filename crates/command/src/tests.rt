@@ -1,5 +1,6 @@
 ghost use Rattle.std.specs.Prelude.{None};
 
+mod attacks;
 mod buildings;
 mod dumps;
 mod flights;
@@ -117,8 +118,8 @@ const SHORT_ANSWERS: [Answers; 13] = [
     ),
     (
         b"@1 1 join 1 1:1:1 1:1:2 10 smallcargo=1 0 0 0\n@1 1 send 1:1:1 1:1:2 attack 10 smallcargo=1 0 0 0\n\
-@1 1 send 1:1:1 1:1:2 harvest 10 recycler=1 0 0 0\n@1 2 planet 1:1:1\n",
-        b"bad 1\nbad 1\nbad 1\nno 1 1 1\n",
+@1 1 send 1:1:1 1:1:2 raid 10 recycler=1 0 0 0\n@1 2 planet 1:1:1\n",
+        b"no 1 1 13\nno 2 1 8\nbad 1\nno 3 1 1\n",
     ),
     (
         b"@1099511627775 2 planet 1:1:1\n@1099511627776 2 planet 1:1:1\n",
@@ -298,7 +299,7 @@ fn answers_at<'a>(
 #[test]
 fn a_line_without_a_reading_reads_the_clock_once(rt: HostRuntime) -> Result<(), Fail> {
     let script =
-        b"2 planet 1:1:1\nplant\n@5 2 planet 1:1:1\n1 join 1 1:1:1 1:1:2 10 smallcargo=1 0 0 0\n3 planet 1:1:1\r\n2 planet 9:9:9\n";
+        b"2 planet 1:1:1\nplant\n@5 2 planet 1:1:1\n1 joins 1 1:1:1 1:1:2 10 smallcargo=1 0 0 0\n3 planet 1:1:1\r\n2 planet 9:9:9\n";
     let (status, sink, clock) = answers_at(rt.alloc(), script, &[3600, 3500, 3700])?;
     assert_eq!(rt; status, DONE);
     let wanted = b"no 1 3600 1\nbad 1\nno 2 3600 1\nbad 1\nno 3 3600 1\nno 4 3700 1\n";

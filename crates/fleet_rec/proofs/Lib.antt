@@ -1,3 +1,4 @@
 pub mod Ships
 pub mod Seen
 pub mod Changed
+pub mod Raids

@@ -1,6 +1,6 @@
 -- Lists of fleets and the lists that are seen of them.
 use Rattle.std.proofs.Common.{◌≡◌, ℕ, ◌+◌, ◌<◌, Bool, true, false, cond, ◌==◌, ◌&&◌, List, [], ◌∷◌, length, map, drop, get_or, arith, refl, ap, ◌∙◌, sym}
-use Rattle.std.specs.Prelude.{count_by, nat_le, Some, sum_by, filter}
+use Rattle.std.specs.Prelude.{count_by, nat_le, Some, sum_by}
 use Rattle.std.proofs.lemmas.List.{drop_more}
 use Rattle.std.proofs.lemmas.List.Sums.{sum_by-cons}
 use Rattle.base_ids.specs.Cells.{same_cell, same_player}
@@ -8,9 +8,8 @@ use Rattle.base_ids.specs.declared.cell_id.CellId.TheVariants.{Planet}
 use Rattle.base_ids.specs.declared.coord.Coord.{Coord}
 use Rattle.base_ids.specs.declared.player.Player.{Player}
 use Rattle.fleet_rec.specs.Fleet.{fleet_seen}
-use Rattle.fleet_rec.specs.Fleets.{landings_due}
+use Rattle.fleet_rec.specs.Fleets.{coming_by}
 use Rattle.fleet_rec.specs.declared.fleet.Fleet.{Fleet}
-use Rattle.tick_model.specs.Events.{lands, second_of}
 use Rattle.tick_model.specs.Flights.{landing}
 use Rattle.tick_model.specs.Lines.{own_fleets}
 use Rattle.tick_model.specs.Sending.{fleet_of}
@@ -42,23 +41,10 @@ ships_more player fleets i fleet here is =
     ap (λ (xs : List Fleet). sum_by (ships_of player) (map fleet_seen xs)) (drop_more fleets i fleet here ∙ ap (λ (x : Fleet). x ∷ drop (i + 1) fleets) (sym is))
     ∙ sum_by-cons (ships_of player) (fleet_seen fleet) (map fleet_seen (drop (i + 1) fleets))
 
-due_cases : (lands_here due : Bool) (first : FleetInList) (later : List FleetInList) (second : ℕ) → nat_le first.second second ≡ due
-    → filter (λ event. nat_le (second_of event) second) (map lands (cond lands_here (first ∷ later) later))
-    ≡ cond (lands_here && due) (lands first ∷ filter (λ event. nat_le (second_of event) second) (map lands later)) (filter (λ event. nat_le (second_of event) second) (map lands later))
-due_cases false due first later second is = refl
-due_cases true due first later second is = ap (λ (b : Bool). cond b (lands first ∷ filter (λ event. nat_le (second_of event) second) (map lands later)) (filter (λ event. nat_le (second_of event) second) (map lands later))) is
-
-due_first : (at : Coord) (second : ℕ) (first : FleetInList) (later : List FleetInList)
-    → landings_due at second (first ∷ later)
-    ≡ cond (same_cell (Planet (landing first)) (Planet at) && nat_le first.second second) (lands first ∷ landings_due at second later) (landings_due at second later)
-due_first at second first later =
-    due_cases (same_cell (Planet (landing first)) (Planet at)) (nat_le first.second second) first (filter (λ (fleet : FleetInList). same_cell (Planet (landing fleet)) (Planet at)) later) second refl
-
--- the landings that are due from a place on
+-- the fleets that come from a place of a list on
 pub due_more : (at : Coord) (second : ℕ) (fleets : List Fleet) (i : ℕ) (fleet : Fleet) → i < length fleets → fleet ≡ get_or fleets i fleet
-    → landings_due at second (map fleet_seen (drop i fleets))
-    ≡ cond (same_cell (Planet (landing (fleet_seen fleet))) (Planet at) && nat_le fleet.second second) (lands (fleet_seen fleet) ∷ landings_due at second (map fleet_seen (drop (i + 1) fleets)))
-    (landings_due at second (map fleet_seen (drop (i + 1) fleets)))
+    → coming_by at second (map fleet_seen (drop i fleets))
+    ≡ cond (same_cell (Planet (landing (fleet_seen fleet))) (Planet at) && nat_le fleet.second second) (fleet_seen fleet ∷ coming_by at second (map fleet_seen (drop (i + 1) fleets)))
+    (coming_by at second (map fleet_seen (drop (i + 1) fleets)))
 due_more at second fleets i fleet here is =
-    ap (λ (xs : List Fleet). landings_due at second (map fleet_seen xs)) (drop_more fleets i fleet here ∙ ap (λ (x : Fleet). x ∷ drop (i + 1) fleets) (sym is))
-    ∙ due_first at second (fleet_seen fleet) (map fleet_seen (drop (i + 1) fleets))
+    ap (λ (xs : List Fleet). coming_by at second (map fleet_seen xs)) (drop_more fleets i fleet here ∙ ap (λ (x : Fleet). x ∷ drop (i + 1) fleets) (sym is))

@@ -41,9 +41,11 @@ impl Fleet {
     ghost use Rattle.base_ids.specs.declared.numbers.TheConstants.{LAST_NUMBER};
     ghost use Rattle.fleet_rec.specs.Fleet.{cargo_seen, fleet_seen, numbered};
     ghost use Rattle.ports.specs.declared.clock.TheConstants.{LATEST};
-    ghost use Rattle.tick_model.specs.Events.{key_of, landing_step, lands};
+    ghost use Rattle.fleet_rec.specs.Fleets.{coming_key};
+    ghost use Rattle.tick_model.specs.Battles.{back_with};
     ghost use Rattle.tick_model.specs.Flights.{back_at, landing, recalled_at, turned};
     ghost use Rattle.tick_model.specs.Lines.{flight_of};
+    ghost use Rattle.tick_model.specs.Raids.{attacks};
     ghost use Rattle.tick_model.specs.Views.{belongs};
 
     /// Where it lands: at its target, or on its way back at its origin.
@@ -131,37 +133,92 @@ impl Fleet {
         }
     }
 
-    /// The step of its landing: fleets that arrive come before those that are back.
-    pub fn step(&self) -> u8
-        ensures { result ≡ landing_step (fleet_seen self.now) }
+    /// Whether it flies out to attack.
+    pub fn attacks(&self) -> bool
+        ensures { result ≡ attacks (fleet_seen self.now) }
     {
-        if self.outbound { 4 } else { 6 }
+        self.outbound && matches!(self.mission, Mission::Attack)
     }
 
-    /// The key of its landing, which orders it among all events.
+    /// The number of that to which it comes: the battle of its group, or its own landing.
+    pub fn event_number(&self) -> u64
+        ensures { result ≡ (coming_key (fleet_seen self.now)).number }
+    {
+        if self.attacks() {
+            self.group
+        } else {
+            self.number
+        }
+    }
+
+    /// The step of that to which it comes: a fleet that arrives comes before a battle, and that before one that is back.
+    pub fn step(&self) -> u8
+        ensures { result ≡ (coming_key (fleet_seen self.now)).step }
+    {
+        if self.attacks() {
+            5
+        } else if self.outbound {
+            4
+        } else {
+            6
+        }
+    }
+
+    /// The key of that to which it comes, which orders it among all events.
     pub fn key(&self) -> Key
         requires drawn { 1 ≤ self.now.number }
+        requires grouped { 1 ≤ self.now.group }
         requires in_time { self.now.second < 2 ^ 42 }
-        ensures { event_key result ≡ key_of (lands (fleet_seen self.now)) }
+        ensures { event_key result ≡ coming_key (fleet_seen self.now) }
     {
         Key {
             second: self.second,
-            number: self.number,
+            number: self.event_number(),
             step: self.step(),
         }
     }
 
-    /// Whether it lands before the other: by second, then number, then step.
+    /// Whether it comes before the other: by second, then number, then step.
     pub fn is_before(&self, other: &Fleet) -> bool
-        ensures { result ≡ key_before (key_of (lands (fleet_seen self.now))) (key_of (lands (fleet_seen other.now))) }
+        ensures { result ≡ key_before (coming_key (fleet_seen self.now)) (coming_key (fleet_seen other.now)) }
     {
         if self.second != other.second {
             return self.second < other.second;
         }
-        if self.number != other.number {
-            return self.number < other.number;
+        if self.event_number() != other.event_number() {
+            return self.event_number() < other.event_number();
         }
         self.step() < other.step()
+    }
+
+    /// The fleet after a battle of which this is left of it: it turns back with these ships and this cargo.
+    pub fn back_with(self, left: &Fleet) -> Fleet
+        requires { IsTrue self.outbound }
+        ensures { fleet_seen result ≡ back_with (fleet_seen self) (fleet_seen left.now) }
+    {
+        let back = self.turned(left.cargo);
+        back.manned_by(left.ships)
+    }
+
+    /// The fleet with other ships.
+    fn manned_by(self, ships: Ships) -> Fleet
+        ensures { fleet_seen result ≡ record (fleet_seen self) { ships = ships.n } }
+    {
+        Fleet {
+            number: self.number,
+            group: self.group,
+            owner: self.owner,
+            mission: self.mission,
+            origin: self.origin,
+            target: self.target,
+            target_owner: self.target_owner,
+            outbound: self.outbound,
+            setting: self.setting,
+            launch: self.launch,
+            second: self.second,
+            cargo: self.cargo,
+            ships,
+        }
     }
 
     /// What its line shows.

@@ -2,9 +2,10 @@
 #![tactic(auto)]
 
 mod changing;
+mod coming_first;
 mod fleet;
 mod fleets;
-mod landing_first;
+mod raiding;
 
 pub use fleet::Fleet;
 pub use fleets::Fleets;

@@ -1,4 +1,7 @@
-ghost use Rattle.std.specs.Prelude.{◌≡◌, ◌≤◌, sum, true};
+ghost use Rattle.std.specs.Prelude.{◌≡◌, ◌≤◌, IsTrue, List, sum, true};
+ghost use Rattle.std.specs.List.{list_all};
+ghost use Rattle.fleet_rec.specs.Fleets.{MayFight};
+ghost use Rattle.tick_model.specs.Universe.{Fleet as FleetSeen};
 ghost use Rattle.base_ids.specs.declared.numbers.TheConstants.{LAST_NUMBER};
 
 use crate::{Fleet, Fleets};
@@ -58,6 +61,19 @@ fn list(alloc: Global, fleets: &[Fleet]) -> Result<Fleets, Fail> {
         all.push(*fleet)?;
     }
     Ok(all)
+}
+
+/// Whether all fleets fly out. Then any of them may fight.
+fn all_fly_out(fleets: &Fleets) -> bool
+    ensures { IsTrue result → (fought : List FleetSeen) → MayFight fought fleets.now }
+{
+    fly_out(fleets.as_slice())
+}
+
+fn fly_out(fleets: &[Fleet]) -> bool
+    ensures { result ≡ list_all (λ fleet. fleet.outbound) fleets.now }
+{
+    fleets.iter().all(|fleet| fleet.outbound)
 }
 
 /// The numbers, groups and seconds of the fleets, and whether they fly out.
@@ -150,15 +166,15 @@ fn the_ships_of_an_account_are_counted(rt: HostRuntime) -> Result<(), Fail> {
 }
 
 #[test]
-fn the_first_landing_is_by_second_then_number(rt: HostRuntime) -> Result<(), Fail> {
+fn the_first_fleet_comes_by_second_then_number(rt: HostRuntime) -> Result<(), Fail> {
     let alloc = rt.alloc();
     let later = flight(5, 5, 1600);
     let second = flight(8, 8, 1500);
     let first = flight(6, 6, 1500);
     let fleets = list(alloc, &[later, second, first])?;
-    assert_eq!(rt; fleets.first_landing(AWAY, 1600), Some(first));
-    assert_eq!(rt; fleets.first_landing(AWAY, 1499), None);
-    assert_eq!(rt; fleets.first_landing(HOME, 1600), None);
+    assert_eq!(rt; fleets.first_coming(AWAY, 1600), Some(first));
+    assert_eq!(rt; fleets.first_coming(AWAY, 1499), None);
+    assert_eq!(rt; fleets.first_coming(HOME, 1600), None);
     Ok(())
 }
 
@@ -190,4 +206,67 @@ fn a_fleet_that_lands_turns_back_or_goes(rt: HostRuntime) -> Result<(), Fail> {
     fleets.land(5, None);
     assert!(rt; fleets.is_empty());
     Ok(())
+}
+
+/// A fleet that attacks in a group.
+fn raider(number: u64, group: u64) -> Fleet
+    requires number { number ≤ LAST_NUMBER }
+    requires group { group ≤ LAST_NUMBER }
+    ensures outbound { result.outbound ≡ true }
+    ensures number { result.number ≡ number }
+{
+    let fleet = flight(number, group, 1600);
+    Fleet {
+        number: fleet.number,
+        group: fleet.group,
+        owner: fleet.owner,
+        mission: Mission::Attack,
+        origin: fleet.origin,
+        target: fleet.target,
+        target_owner: fleet.target_owner,
+        outbound: fleet.outbound,
+        setting: fleet.setting,
+        launch: fleet.launch,
+        second: fleet.second,
+        cargo: fleet.cargo,
+        ships: fleet.ships,
+    }
+}
+
+#[test]
+fn a_group_attacks_and_what_is_left_turns_back(rt: HostRuntime) -> Result<(), Fail> {
+    let alloc = rt.alloc();
+    let mut fleets = list(
+        alloc,
+        &[raider(5, 5), flight(6, 5, 1600), raider(7, 5), raider(8, 8)],
+    )?;
+    assert_eq!(rt;
+        (fleets.companions(AWAY, 5), fleets.companions(HOME, 5)),
+        (3, 0)
+    );
+    let raid = fleets.raiders(AWAY, 5)?;
+    assert_eq!(rt; raid.as_slice(), [raider(5, 5), raider(7, 5)].as_slice());
+    assert_eq!(rt; (raid.has(7), raid.has(6)), (true, false));
+    assert!(rt; fleets.first_raider(AWAY, 5) == Some(raider(5, 5)));
+    assert!(rt; fleets.first_raider(HOME, 5).is_none());
+    let left = list(alloc, &[raider(7, 5)])?;
+    assert!(rt; all_fly_out(&fleets));
+    fleets.fight(&raid, &left);
+    let want = [(6, 5, 1600, true), (7, 5, 2200, false), (8, 8, 1600, true)];
+    assert_eq!(rt; shown(alloc, &fleets)?.as_slice(), want.as_slice());
+    Ok(())
+}
+
+#[test]
+fn a_battle_comes_between_an_arrival_and_a_return(rt: HostRuntime) {
+    let arrives = flight(5, 5, 1600);
+    let fights = raider(7, 5);
+    let back = flight(5, 5, 1300).turned(NOTHING);
+    assert_eq!(rt; back.second, 1600);
+    assert_eq!(rt; (arrives.step(), fights.step(), back.step()), (4, 5, 6));
+    assert_eq!(rt;
+        (fights.event_number(), raider(7, 6).event_number()),
+        (5, 6)
+    );
+    assert!(rt; arrives.is_before(&fights) && fights.is_before(&back));
 }

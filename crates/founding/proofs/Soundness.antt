@@ -12,9 +12,10 @@ use Rattle.base_bytes.proofs.Among.{has-place, in-map, is-among, pairs-first, pa
 use Rattle.base_bytes.proofs.Fresh.{fresh-levels, fresh-techs}
 use Rattle.base_bytes.proofs.Owned.{player-one, player-same}
 use Rattle.base_bytes.specs.Base.{all_items}
-use Rattle.base_bytes.specs.Sound.{outbound_in, places_owned, planets_owned, units_counted, units_owned, ArriveTogether, HasSlots, IsSound, IsSoundFleet, RunsAfter}
+use Rattle.base_bytes.specs.Sound.{places_owned, planets_owned, units_counted, units_owned, HasSlots, IsSound, IsSoundFleet, RunsAfter}
+use Rattle.tick_model.specs.Raids.{outbound_in}
 use Rattle.base_bytes.specs.declared.base.Base.{Base}
-use Rattle.base_bytes.specs.declared.base.TheConstants.{MOST_IN_GROUP}
+use Rattle.tick_model.specs.declared.codes.TheConstants.{MOST_IN_GROUP}
 use Rattle.base_ids.specs.Cells.{same_player}
 use Rattle.base_ids.specs.Order.{coord_before, player_before}
 use Rattle.base_ids.specs.declared.player.Player.{Player}
@@ -25,7 +26,7 @@ use Rattle.planet_cell.specs.declared.planet.Planet.{Planet}
 use Rattle.tick_model.proofs.Lists.{in-filter}
 use Rattle.tick_model.specs.Limits.{KeepsLevels, KeepsTechs}
 use Rattle.tick_model.specs.Refusals.{is_dome, used_fields}
-use Rattle.tick_model.specs.Rules.{IsIn, same_order}
+use Rattle.tick_model.specs.Rules.{ArriveTogether, IsIn, same_order}
 use Rattle.tick_model.specs.Universe.{Fleet, Item}
 use Rattle.tick_model.specs.Yards.{count_of}
 use Rattle.founding.specs.DraftMaps.{own_of, places_in, places_of, planet_of, player_order, units_in}

@@ -8,10 +8,11 @@ use Rattle.base_ids.specs.declared.coord.Coord.{Coord}
 use Rattle.base_ids.specs.declared.player.Player.{Player}
 use Rattle.laziness.proofs.Bringing.{never, test}
 use Rattle.laziness.specs.Stamps.{Stamps, bring_to, event_acts}
-use Rattle.tick_model.specs.Changes.{seen_after}
-use Rattle.tick_model.specs.Events.{Event, Owes, event_change, footprint, home, lands, second_of}
+use Rattle.tick_model.specs.Events.{Event, IsRaid, Owes, event_change, fights, footprint, home, lands, second_of, seen_after_event}
+use Rattle.tick_model.specs.Flights.{landing}
 use Rattle.tick_model.specs.Game.{game}
 use Rattle.tick_model.specs.Production.{gains}
+use Rattle.tick_model.specs.Raids.{Raid, attacks, raid_of}
 use Rattle.tick_model.specs.Rules.{IsIn, KeepsRules}
 use Rattle.tick_model.specs.Universe.{Fleet, Item, QueueClass, Setting}
 use Rattle.tick_model.specs.Views.{View, shown, view}
@@ -19,11 +20,12 @@ use Rattle.tick_model.specs.declared.rules.Rules.{Rules}
 use Rattle.tick_model.proofs.Effects.{seen_of as seen_by_event}
 use Rattle.tick_model.proofs.Footprints.{event-outside}
 use Rattle.tick_model.proofs.Gains.{advance-keeps, gains-owe, none-gained, view-advanced}
+use Rattle.tick_model.proofs.Nexts.{landing-out}
 use Rattle.tick_model.proofs.Queues.{owed-home}
 use Rattle.tick_model.proofs.Seen.{event-seen}
 use Rattle.tick_model.proofs.Writes.{shown-alike}
 use Rattle.fleet_rec.specs.Fleet.{fleet_seen}
-use Rattle.happenings.specs.Applying.{Happens, change_then, held_after, stand_after}
+use Rattle.happenings.specs.Applying.{Happens, change_then, held_after, seen_then, stand_after}
 use Rattle.happenings.specs.Coming.{ActsIn}
 use Rattle.happenings.specs.Gaining.{gained, gained_at}
 use Rattle.happenings.specs.Happening.{IsOwed, second_at}
@@ -32,7 +34,7 @@ use Rattle.happenings.specs.Held.{IsNamed, Shows, ShowsCell, Stand, held_at, hol
 use Rattle.happenings.specs.Orders.{place_order, player_order}
 use Rattle.happenings.specs.Queues.{class_of, event_of, home_of, items_held, seen_held, seen_of}
 use Rattle.happenings.specs.declared.happening.Happening.{Happening}
-use Rattle.happenings.specs.declared.happening.Happening.TheVariants.{Item as ItemDue, Landing}
+use Rattle.happenings.specs.declared.happening.Happening.TheVariants.{Item as ItemDue, Coming}
 use Rattle.happenings.specs.declared.held.AccountCell.{AccountCell}
 use Rattle.happenings.specs.declared.held.Held.{Held}
 use Rattle.happenings.specs.declared.held.PlanetCell.{PlanetCell}
@@ -84,14 +86,32 @@ no-fleets : (o : Option Stand) (fleet : Fleet) → IsIn fleet (seen_of o).fleets
 no-fleets None fleet is = absurd is
 no-fleets (Some stand) fleet is = refl
 
-landing-stands : (setting : Setting) (held : Held) (f : Stamps (game setting)) (fleet : Fleet) → Shows setting held f → LandsIn held fleet → StandsThere setting held f (lands fleet)
-landing-stands setting held f fleet shows is =
-    let place = home (lands fleet) in
-    let inside = no-fleets (held_at held place) fleet is in
-    record {
-      stands = subst (λ (v : View). IsIn fleet v.fleets) (held-seen setting held f place shows inside) is;
-      inside = inside;
-    }
+module _ (setting : Setting) (held : Held) (f : Stamps (game setting)) (fleet : Fleet) (shows : Shows setting held f) (is : LandsIn held fleet) where
+  abbrev place_there : CellId
+  place_there = Planet (landing fleet)
+
+  place-inside : holds held place_there ≡ true
+  place-inside = no-fleets (held_at held place_there) fleet is
+
+  raid-stands : attacks fleet ≡ true → StandsThere setting held f (fights (raid_of (seen_held held place_there).fleets fleet))
+  raid-stands hostile =
+      let there = (seen_held held place_there).fleets in
+      let target : place_there ≡ Planet fleet.target = ap Planet (landing-out fleet hostile) in
+      let seen : there ≡ (view setting.cells f.universe (Planet fleet.target)).fleets = ap (λ (v : View). v.fleets) (held-seen setting held f place_there shows place-inside) ∙ ap (λ x. (view setting.cells f.universe x).fleets) target in
+      record {
+        stands = subst (λ fleets. IsRaid fleets (raid_of there fleet)) seen (record { one = fleet; flies = is; hostile = hostile; is = refl });
+        inside = subst (λ x. holds held x ≡ true) target place-inside;
+      }
+
+  landing-stands : attacks fleet ≡ false → StandsThere setting held f (lands fleet)
+  landing-stands alone = record {
+    stands = (subst (λ (v : View). IsIn fleet v.fleets) (held-seen setting held f place_there shows place-inside) is, alone);
+    inside = place-inside;
+  }
+
+  coming-stands : (b : Bool) → attacks fleet ≡ b → StandsThere setting held f (cond b (fights (raid_of (seen_held held place_there).fleets fleet)) (lands fleet))
+  coming-stands true hostile = raid-stands hostile
+  coming-stands false alone = landing-stands alone
 
 item-stands : (setting : Setting) (held : Held) (f : Stamps (game setting)) (queue : Queue) (item : Item) (later : List Item) → Shows setting held f → items_held held queue ≡ item ∷ later
     → StandsThere setting held f (event_of queue item later)
@@ -103,16 +123,21 @@ item-stands setting held f queue item later shows owed =
 pub event-there : (setting : Setting) (held : Held) (f : Stamps (game setting)) (what : Happening) (event : Event) → Shows setting held f → IsOwed held what event → StandsThere setting held f event
 event-there setting held f (ItemDue due) event shows is =
     subst (StandsThere setting held f) (sym is.is) (item-stands setting held f due.queue is.item is.later shows is.owed)
-event-there setting held f (Landing fleet) event shows is =
-    subst (StandsThere setting held f) (sym is.is) (landing-stands setting held f (fleet_seen fleet) shows is.owed)
+event-there setting held f (Coming fleet) event shows is =
+    subst (StandsThere setting held f) (sym is.is) (coming-stands setting held f (fleet_seen fleet) shows is.owed (attacks (fleet_seen fleet)) refl)
+
+-- a fleet comes at its second
+second-at : (raid : Raid) (fleet : Fleet) → raid.second ≡ fleet.second → (b : Bool) → second_of (cond b (fights raid) (lands fleet)) ≡ fleet.second
+second-at raid fleet second true = second
+second-at raid fleet second false = refl
 
 -- it is due at its second
 pub owed-second : (held : Held) (what : Happening) (event : Event) → IsOwed held what event → second_of event ≡ second_at what
 owed-second held (ItemDue due) event is = ap second_of is.is ∙ is.second
-owed-second held (Landing fleet) event is = ap second_of is.is
+owed-second held (Coming fleet) event is = ap second_of is.is ∙ second-at (raid_of (seen_held held (Planet (landing (fleet_seen fleet)))).fleets (fleet_seen fleet)) (fleet_seen fleet) refl (attacks (fleet_seen fleet))
 
 -- a cell of the footprint, once it gained
-gained-shown : (setting : Setting) (f : Stamps (game setting)) (S : CellId → Bool) (second : ℕ) (cell : CellId) (o : Option Stand) → S cell ≡ true → is_some o ≡ true → IfSome o (ShowsCell setting f cell)
+pub gained-shown : (setting : Setting) (f : Stamps (game setting)) (S : CellId → Bool) (second : ℕ) (cell : CellId) (o : Option Stand) → S cell ≡ true → is_some o ≡ true → IfSome o (ShowsCell setting f cell)
     → seen_of (option_map (gained setting.rules second) o) ≡ view setting.cells (bring_to (game setting) S second f).universe cell
 gained-shown setting f S second cell None has held shown = never false held refl
 gained-shown setting f S second cell (Some stand) has held shown =
@@ -145,8 +170,8 @@ shows_event setting f old new e shows fine owed within happens x =
     (gains-owe setting.rules (cond (cells (home e)) (second - f.at (home e)) 0) (view setting.cells f.universe (home e)) e owed) in
     let brought : (y : CellId) → cells y ≡ true → seen_of (gained_at setting.rules second old y) ≡ view setting.cells b.universe y =
     λ y has. gained-shown setting f cells second y (held_at old y) has (within y has) (shows y) in
-    let change : change_then setting.rules e old ≡ event_change setting.rules e (seen_by_event setting e b.universe) =
-    ap (event_change setting.rules e) (shown-alike cells (λ y. seen_of (gained_at setting.rules second old y)) (view setting.cells b.universe) brought) in
+    let seen : seen_then setting.rules e old ≡ seen_by_event setting e b.universe = shown-alike cells (λ y. seen_of (gained_at setting.rules second old y)) (view setting.cells b.universe) brought in
+    let change : change_then setting.rules e old ≡ event_change setting.rules e (seen_by_event setting e b.universe) = ap (event_change setting.rules e) seen in
     elim (test (cells x)) [
       | inl has ↦
           (let now : held_at new x ≡ option_map (stand_after setting.rules e old x) (held_at old x) =
@@ -155,8 +180,8 @@ shows_event setting f old new e shows fine owed within happens x =
           (mapped-shown (held_at old x) (stand_after setting.rules e old x) (ShowsCell setting f x) (ShowsCell setting g x) (λ stand is shown. record {
             second = sym (ap (λ c. cond c second (f.at x)) has);
             seen =
-                (λ i. seen_after (change i) x (gained setting.rules second stand).seen)
-                ∙ ap (seen_after (event_change setting.rules e (seen_by_event setting e b.universe)) x) (ap (λ o. seen_of (option_map (gained setting.rules second) o)) (sym is) ∙ brought x has)
+                (λ i. seen_after_event e (change i) (seen i) x (gained setting.rules second stand).seen)
+                ∙ ap (seen_after_event e (event_change setting.rules e (seen_by_event setting e b.universe)) (seen_by_event setting e b.universe) x) (ap (λ o. seen_of (option_map (gained setting.rules second) o)) (sym is) ∙ brought x has)
                 ∙ sym (event-seen setting b.universe e x kept stands has);
           }) (shows x)))
       | inr out ↦

@@ -12,7 +12,8 @@ use Rattle.fleet_rec.specs.Fleet.{fleet_seen}
 use Rattle.fleet_rec.specs.declared.fleet.Fleet.{Fleet as FleetRecord}
 use Rattle.laziness.proofs.Bringing.{never}
 use Rattle.laziness.specs.Stamps.{Stamps}
-use Rattle.tick_model.specs.Events.{Owes, footprint, home, lands}
+use Rattle.tick_model.specs.Events.{Owes, fights, footprint, home, lands}
+use Rattle.tick_model.specs.Raids.{attacks, raid_of}
 use Rattle.tick_model.specs.Flights.{landing}
 use Rattle.tick_model.specs.Game.{game}
 use Rattle.tick_model.specs.Rules.{IsFlying, IsIn, KeepsRules}
@@ -24,21 +25,21 @@ use Rattle.tick_model.proofs.Lists.{cell-itself, fleet-one, from-filter, in-cont
 use Rattle.tick_model.proofs.Nexts.{landing-listed}
 use Rattle.happenings.specs.Applying.{CanFinish, Finishes, Happens, held_after}
 use Rattle.happenings.specs.Coming.{CanHappen}
-use Rattle.happenings.specs.Happening.{IsOwed}
+use Rattle.happenings.specs.Happening.{IsOwed, coming_in}
 use Rattle.happenings.specs.Held.{Shows, ShowsCell, Stand, account_stand, held_at, holds}
 use Rattle.happenings.specs.Landings.{CanLand, HasRoom, HaveOwnFleets, LandsIn, Stays}
 use Rattle.happenings.specs.Orders.{player_order}
-use Rattle.happenings.specs.Queues.{seen_of}
+use Rattle.happenings.specs.Queues.{seen_held, seen_of}
 use Rattle.happenings.specs.declared.due.Due.{Due}
 use Rattle.happenings.specs.declared.happening.Happening.{Happening}
-use Rattle.happenings.specs.declared.happening.Happening.TheVariants.{Item as ItemDue, Landing}
+use Rattle.happenings.specs.declared.happening.Happening.TheVariants.{Item as ItemDue, Coming}
 use Rattle.happenings.specs.declared.held.AccountCell.{AccountCell}
 use Rattle.happenings.specs.declared.held.Held.{Held}
 use Rattle.happenings.proofs.Acting.{event-there, if_some}
 use Rattle.happenings.proofs.Firsts.{one_event}
 
 -- the fleets of a cell that is held are those of its universe
-shown-fleet : (setting : Setting) (f : Stamps (game setting)) (cell : CellId) (o : Option Stand) (fleet : Fleet) → IfSome o (ShowsCell setting f cell) → IsIn fleet (seen_of o).fleets
+pub shown-fleet : (setting : Setting) (f : Stamps (game setting)) (cell : CellId) (o : Option Stand) (fleet : Fleet) → IfSome o (ShowsCell setting f cell) → IsIn fleet (seen_of o).fleets
     → IsIn fleet (view setting.cells f.universe cell).fleets
 shown-fleet setting f cell None fleet shown is = absurd is
 shown-fleet setting f cell (Some stand) fleet shown is = subst (λ (v : View). IsIn fleet v.fleets) shown.seen is
@@ -48,7 +49,7 @@ own_fleets setting held f shows cell fleet is =
     (from-filter (belongs cell) fleet f.universe.fleets (shown-fleet setting f cell (held_at held cell) fleet (shows cell) is)).1
 
 -- no cell that is held and that an event needs stands later
-stands-by : (setting : Setting) (held : Held) (f : Stamps (game setting)) (cell : CellId) (second : ℕ) → Shows setting held f → f.at cell ≤ second → IfSome (held_at held cell) (λ stand. stand.second ≤ second)
+pub stands-by : (setting : Setting) (held : Held) (f : Stamps (game setting)) (cell : CellId) (second : ℕ) → Shows setting held f → f.at cell ≤ second → IfSome (held_at held cell) (λ stand. stand.second ≤ second)
 stands-by setting held f cell second shows by =
     if_some (held_at held cell) (ShowsCell setting f cell) (λ stand. stand.second ≤ second) (λ stand shown. let at : stand.second ≡ f.at cell = shown.second in omega (arith, at, by)) (shows cell)
 
@@ -70,7 +71,7 @@ can_finish held what due is can =
 
 -- The planet where a fleet stays is its owner's, and its units and the ships are among those of the owner's account.
 
-one-of-sum : {A : Type 0} (f : A → ℕ) (xs : List A) (x : A) → IsIn x xs → f x ≤ sum_by f xs
+pub one-of-sum : {A : Type 0} (f : A → ℕ) (xs : List A) (x : A) → IsIn x xs → f x ≤ sum_by f xs
 one-of-sum f [] x is = absurd is
 one-of-sum f (first ∷ later) x (inl same) =
     let here : f x ≡ f first = ap f same in
@@ -103,28 +104,28 @@ own-planet state fleet true is flying (inr deploy) = record {
 }
 own-planet state fleet false is flying (inr deploy) = home-planet state fleet is flying
 
-counted : (b : Bool) (units : ℕ) → b ≡ true → cond b units 0 ≡ units
+pub counted : (b : Bool) (units : ℕ) → b ≡ true → cond b units 0 ≡ units
 counted b units is = ap (λ c. cond c units 0) is
 
-player-itself : (player : Player) → same_player player player ≡ true
+pub player-itself : (player : Player) → same_player player player ≡ true
 player-itself player = same_number player.k
 
 -- the account of its owner
-record OwnerHeld (held : Held) (player : Player) : Type 0 where
-  cell : AccountCell
-  found : get player_order held.accounts player ≡ Some cell
+pub record OwnerHeld (held : Held) (player : Player) : Type 0 where
+  pub cell : AccountCell
+  pub found : get player_order held.accounts player ≡ Some cell
 
-owner-held : (held : Held) (player : Player) (o : Option AccountCell) → get player_order held.accounts player ≡ o → is_some (option_map account_stand o) ≡ true → OwnerHeld held player
+pub owner-held : (held : Held) (player : Player) (o : Option AccountCell) → get player_order held.accounts player ≡ o → is_some (option_map account_stand o) ≡ true → OwnerHeld held player
 owner-held held player None found inside = never false inside refl
 owner-held held player (Some cell) found inside = record { cell = cell; found = found }
 
-owner-belongs : (fleet : Fleet) → belongs (AccountId fleet.owner) fleet ≡ true
+pub owner-belongs : (fleet : Fleet) → belongs (AccountId fleet.owner) fleet ≡ true
 owner-belongs fleet =
     or-first (same_cell (PlanetId fleet.origin) (AccountId fleet.owner) || same_cell (AccountId fleet.owner) (AccountId fleet.owner))
     (fleet.outbound && (same_cell (PlanetId fleet.target) (AccountId fleet.owner) || same_cell (AccountId fleet.target_owner) (AccountId fleet.owner)))
     (or-second (same_cell (PlanetId fleet.origin) (AccountId fleet.owner)) (same_cell (AccountId fleet.owner) (AccountId fleet.owner)) (cell-itself (AccountId fleet.owner)))
 
-account-shown : (setting : Setting) (held : Held) (f : Stamps (game setting)) (player : Player) (cell : AccountCell) → Shows setting held f → get player_order held.accounts player ≡ Some cell
+pub account-shown : (setting : Setting) (held : Held) (f : Stamps (game setting)) (player : Player) (cell : AccountCell) → Shows setting held f → get player_order held.accounts player ≡ Some cell
     → ShowsCell setting f (AccountId player) (account_stand cell)
 account-shown setting held f player cell shows found =
     subst (λ (o : Option Stand). IfSome o (ShowsCell setting f (AccountId player))) (ap (option_map account_stand) found) (shows (AccountId player))
@@ -169,18 +170,23 @@ module _ (setting : Setting) (held : Held) (f : Stamps (game setting)) (fleet : 
         (ap (λ n. eqb n fleet.number) same ∙ same_number fleet.number);
   }
 
+-- the event of a fleet that doesn't attack is its landing
+pub alone-event : (held : Held) (fleet : Fleet) → attacks fleet ≡ false → coming_in held fleet ≡ lands fleet
+alone-event held fleet alone = ap (λ b. cond b (fights (raid_of (seen_held held (PlanetId (landing fleet))).fleets fleet)) (lands fleet)) alone
+
 -- a fleet can land
-pub can_land : (held : Held) (what : Happening) (fleet : FleetRecord) → what ≡ Landing fleet → CanHappen held what → CanLand held (fleet_seen fleet)
-can_land held what fleet is can =
-    can-end held fleet (subst (CanHappen held) is can)
+pub can_land : (held : Held) (what : Happening) (fleet : FleetRecord) → what ≡ Coming fleet → attacks (fleet_seen fleet) ≡ false → CanHappen held what → CanLand held (fleet_seen fleet)
+can_land held what fleet is alone can =
+    can-end held fleet alone (subst (CanHappen held) is can)
   where
-    can-end : (held : Held) (fleet : FleetRecord) → CanHappen held (Landing fleet) → CanLand held (fleet_seen fleet)
-    can-end held fleet can =
+    can-end : (held : Held) (fleet : FleetRecord) → attacks (fleet_seen fleet) ≡ false → CanHappen held (Coming fleet) → CanLand held (fleet_seen fleet)
+    can-end held fleet alone can =
         let seen = fleet_seen fleet in
-        let there = event-there can.setting held can.stamps (Landing fleet) can.event can.shows can.owed in
-        let stands = subst (λ e. Owes (view can.setting.cells can.stamps.universe (home e)) e) can.owed.is there.stands in
-        let flies = flies-in can.setting.cells can.stamps.universe (home (lands seen)) seen stands in
-        let needed : (cell : CellId) → footprint can.event cell ≡ belongs cell seen = λ cell. ap (λ e. footprint e cell) can.owed.is in
+        let there = event-there can.setting held can.stamps (Coming fleet) can.event can.shows can.owed in
+        let lands_is : can.event ≡ lands seen = can.owed.is ∙ alone-event held seen alone in
+        let stands = subst (λ e. Owes (view can.setting.cells can.stamps.universe (home e)) e) lands_is there.stands in
+        let flies = flies-in can.setting.cells can.stamps.universe (home (lands seen)) seen stands.0 in
+        let needed : (cell : CellId) → footprint can.event cell ≡ belongs cell seen = λ cell. ap (λ e. footprint e cell) lands_is in
         can-land can.setting held can.stamps seen can.shows can.fine (λ cell has. can.within cell (needed cell ∙ has)) flies
         (λ cell has. can.timely cell (needed cell ∙ has)) can.owed.owed
 
@@ -191,8 +197,8 @@ item_happens rules what due old new is finishes event owed cell =
     finishes item.item item.later item.owed cell ∙ ap (λ e. held_after rules e old cell) (sym item.is)
 
 -- and so has a landing
-pub landing_happens : (rules : Rules) (what : Happening) (fleet : FleetRecord) (old new : Held) → what ≡ Landing fleet → ((cell : CellId) → held_at new cell ≡ held_after rules (lands (fleet_seen fleet)) old cell)
-    → Happens rules what old new
-landing_happens rules what fleet old new is after event owed cell =
+pub landing_happens : (rules : Rules) (what : Happening) (fleet : FleetRecord) (old new : Held) → what ≡ Coming fleet → attacks (fleet_seen fleet) ≡ false
+    → ((cell : CellId) → held_at new cell ≡ held_after rules (lands (fleet_seen fleet)) old cell) → Happens rules what old new
+landing_happens rules what fleet old new is alone after event owed cell =
     let landed = subst (λ w. IsOwed old w event) is owed in
-    after cell ∙ ap (λ e. held_after rules e old cell) (sym landed.is)
+    after cell ∙ ap (λ e. held_after rules e old cell) (sym (landed.is ∙ alone-event old (fleet_seen fleet) alone))

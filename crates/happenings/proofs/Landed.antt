@@ -21,7 +21,7 @@ use Rattle.planet_cell.specs.Planet.{batches_of, buildings_of, fields_of, queue_
 use Rattle.reply_text.specs.declared.units.Units.{Units}
 use Rattle.tick_model.specs.Changes.{Change, new_fleet, owns, put_own, queue_after, stays_queued}
 use Rattle.tick_model.specs.Events.{Event, lands}
-use Rattle.tick_model.specs.Flights.{Landed, arrived, landed, landing, moored, supplied, turns}
+use Rattle.tick_model.specs.Flights.{Landed, arrived, harvested, landed, landing, moored, supplied, turns}
 use Rattle.tick_model.specs.Rules.{IsIn}
 use Rattle.tick_model.specs.Universe.{Fleet, Item, Own, PlanetFields, QueueClass, Yard, of_planet}
 use Rattle.tick_model.specs.Views.{View, belongs, holding, nothing_seen, units_left}
@@ -39,6 +39,7 @@ use Rattle.happenings.specs.Queues.{seen_of}
 use Rattle.happenings.specs.declared.held.AccountCell.{AccountCell}
 use Rattle.happenings.specs.declared.held.Held.{Held}
 use Rattle.happenings.specs.declared.held.PlanetCell.{PlanetCell}
+use Rattle.happenings.proofs.Cargoes.{back-then}
 use Rattle.happenings.proofs.Gains.{account_gained, queue-same}
 use Rattle.happenings.proofs.Numbered.{put-at}
 use Rattle.happenings.proofs.Standing.{planet_seen, seen-gains}
@@ -77,14 +78,14 @@ puts_unloaded fleet old new stand now puts found is cell =
 
 -- All cells together.
 
-queue-kept : (change : Change) (cell : CellId) (queue : QueueClass → List Item) → change.items ≡ [] → ((item : Item) → stays_queued change item ≡ true)
+pub queue-kept : (change : Change) (cell : CellId) (queue : QueueClass → List Item) → change.items ≡ [] → ((item : Item) → stays_queued change item ≡ true)
     → (λ class. queue_after change cell class (queue class)) ≡ queue
 queue-kept change cell queue none stays = fun_ext (λ class.
     ap (λ items. queue_after (record change { items = items }) cell class (queue class)) none
     ∙ append-nil (filter (stays_queued change) (queue class)) ∙ filter-all (stays_queued change) (queue class) (λ item is. stays item))
 
 module _ (rules : Rules) (old mid new : Held) (fleet : Fleet) (back : Option Units) (place : PlanetCell) (found : get place_order old.planets (landing fleet) ≡ Some place)
-    (is_back : (planet : PlanetFields) → back ≡ (landed fleet (of_planet planet)).back) (leaves : Leaves (λ cell. belongs cell fleet) rules fleet back old mid) (unloads : Unloads fleet mid new) where
+    (is_back : back ≡ (landed fleet (of_planet (fields_of place.planet))).back) (leaves : Leaves (λ cell. belongs cell fleet) rules fleet back old mid) (unloads : Unloads fleet mid new) where
   abbrev event : Event
   event = lands fleet
 
@@ -112,7 +113,7 @@ module _ (rules : Rules) (old mid new : Held) (fleet : Fleet) (back : Option Uni
       ∙ ap (λ (v : View). v.own) (seen-gains rules (fleet.second - place.second) (fields_of place.planet) (queue_of place.planet) place.fleets)
 
   turns-same : came.back ≡ back
-  turns-same = ap (λ own. (landed fleet own).back) place-then ∙ sym (is_back (fields_then rules fleet.second place))
+  turns-same = ap (λ own. (landed fleet own).back) place-then ∙ sym (is_back ∙ back-then rules fleet.second place fleet)
 
   fleets-then : (cell : CellId) (fleets : List Fleet)
       → filter (belongs cell) (filter_map (λ (f : Fleet). cond (f.number == fleet.number) (turns came.back f) (Some f)) fleets) ++ []
@@ -255,9 +256,11 @@ module _ (fleet : FleetRecord) (old new : PlanetCell) (second : new.second ≡ o
       let seen = fleet_seen fleet in
       planet_unloaded seen old new second flown (ap of_planet (fields seen refl) ∙ sym (out_does seen (fields_of old.planet) Transport out mission)) buildings yard
 
-pub harvest_unloads : (fleet : FleetRecord) (cell : PlanetCell) → fleet.outbound ≡ true → fleet.mission ≡ Harvest → planet_stand cell ≡ stand_unloaded (fleet_seen fleet) (planet_stand cell)
-harvest_unloads fleet cell out mission =
-    planet_unloaded (fleet_seen fleet) cell cell refl refl (sym (out_does (fleet_seen fleet) (fields_of cell.planet) Harvest out mission)) refl refl
+  pub harvest_unloads : fleet.outbound ≡ true → fleet.mission ≡ Harvest → fields_of new.planet ≡ harvested (fields_of old.planet) (fleet_seen fleet)
+      → planet_stand new ≡ stand_unloaded (fleet_seen fleet) (planet_stand old)
+  harvest_unloads out mission fields =
+      let seen = fleet_seen fleet in
+      planet_unloaded seen old new second flown (ap of_planet fields ∙ sym (out_does seen (fields_of old.planet) Harvest out mission)) buildings yard
 
 pub attack_unloads : (fleet : FleetRecord) (cell : PlanetCell) → fleet.outbound ≡ true → fleet.mission ≡ Attack → planet_stand cell ≡ stand_unloaded (fleet_seen fleet) (planet_stand cell)
 attack_unloads fleet cell out mission =

@@ -8,6 +8,7 @@ pub mod Acting
 pub mod Owing
 pub mod Arriving
 pub mod Left
+pub mod Cargoes
 pub mod Landed
 pub mod Allowed
 pub mod Finished
@@ -19,3 +20,7 @@ pub mod Payers
 pub mod Brought
 pub mod Joined
 pub mod Fresh
+pub mod Fought
+pub mod Battled
+pub mod Fightable
+pub mod Attacked

@@ -1,22 +1,27 @@
 -- What cells that are held owe, and what they owe in the universe that they show.
-use Rattle.std.proofs.Common.{◌≡◌, ◌⊎◌, ℕ, ◌<◌, ◌≤◌, inl, inr, Bool, true, false, List, [], ◌∷◌, refl, ap, ◌∙◌, sym, subst, arith, Option, Some, None}
+use Rattle.std.proofs.Common.{◌≡◌, ◌⊎◌, ℕ, ◌<◌, ◌≤◌, inl, inr, Bool, true, false, cond, List, [], ◌∷◌, refl, ap, ◌∙◌, sym, subst, arith, Option, Some, None}
 use Rattle.std.specs.Prelude.{MatchOption, option_map}
 use Rattle.std.specs.BTreeMap.{get, is_at}
 use Rattle.std.specs.List.{AllByRecursion}
 use Rattle.account_cell.specs.Account.{research_of}
 use Rattle.planet_cell.specs.Planet.{batches_of, buildings_of}
 use Rattle.base_ids.specs.Order.{key_before}
+use Rattle.base_ids.specs.declared.cell_id.CellId.TheVariants.{Planet}
 use Rattle.base_ids.specs.declared.coord.Coord.{Coord}
 use Rattle.base_ids.specs.declared.player.Player.{Player}
 use Rattle.laziness.proofs.Bringing.{never}
 use Rattle.laziness.specs.Laws.{NoneDue}
 use Rattle.laziness.specs.Stamps.{Stamps}
-use Rattle.tick_model.specs.Events.{item_due, lands, Owes, home, key_of, step_of}
+use Rattle.tick_model.specs.Events.{IsRaid, item_due, lands, fights, Owes, home, key_of, landing_step, step_of}
+use Rattle.tick_model.specs.Flights.{landing}
+use Rattle.tick_model.specs.Raids.{Raid, attacks}
 use Rattle.tick_model.specs.Rules.{IsIn}
 use Rattle.tick_model.specs.Game.{game}
 use Rattle.tick_model.specs.Universe.{Buildings as BuildingsClass, Researches as ResearchClass, Yard as YardClass, Fleet, Item, QueueClass, Setting}
 use Rattle.tick_model.specs.Views.{View, view}
+use Rattle.fleet_rec.specs.Fleets.{coming_key}
 use Rattle.tick_model.proofs.Keys.{key-not_before}
+use Rattle.tick_model.proofs.Nexts.{landing-out}
 use Rattle.happenings.specs.Coming.{FindsFirst, IsFirstEvent}
 use Rattle.happenings.specs.Due.{IsFirstOfQueues, IsFirstOfThese, IsFirstOwed, IsNoneOfQueues, IsNoneOfThese, first_of, is_of_planet, is_research, key_at, owed_by_account, owed_by_planet, sooner_of}
 use Rattle.happenings.specs.Happening.{IsFirstDue, IsNothingDue}
@@ -57,7 +62,26 @@ queue-there setting held f class item later shows inside owes =
 landing-there : (setting : Setting) (held : Held) (f : Stamps (game setting)) (fleet : Fleet) → Shows setting held f → holds held (home (lands fleet)) ≡ true
     → Owes (view setting.cells f.universe (home (lands fleet))) (lands fleet) → LandsIn held fleet
 landing-there setting held f fleet shows inside owes =
-    subst (λ (v : View). IsIn fleet v.fleets) (sym (held-seen setting held f (home (lands fleet)) shows inside)) owes
+    subst (λ (v : View). IsIn fleet v.fleets) (sym (held-seen setting held f (home (lands fleet)) shows inside)) owes.0
+
+-- and so does one of a raid
+raider-there : (setting : Setting) (held : Held) (f : Stamps (game setting)) (raid : Raid) → Shows setting held f → holds held (Planet raid.target) ≡ true
+    → (is_raid : IsRaid (view setting.cells f.universe (Planet raid.target)).fleets raid) → LandsIn held is_raid.one
+raider-there setting held f raid shows inside is_raid =
+    let target : raid.target ≡ is_raid.one.target = ap (λ (r : Raid). r.target) is_raid.is in
+    let place : Planet raid.target ≡ Planet (landing is_raid.one) = ap Planet (target ∙ sym (landing-out is_raid.one is_raid.hostile)) in
+    subst (λ x. IsIn is_raid.one (seen_held held x).fleets) place
+    (subst (λ (v : View). IsIn is_raid.one v.fleets) (sym (held-seen setting held f (Planet raid.target) shows inside)) is_raid.flies)
+
+raid-key : (fleets : List Fleet) (raid : Raid) → (is_raid : IsRaid fleets raid) → key_of (fights raid) ≡ coming_key is_raid.one
+raid-key fleets raid is_raid =
+    let one = is_raid.one in
+    (λ i. key_of (fights (is_raid.is i)))
+    ∙ sym (ap (λ b. cond b (record { second = one.second; number = one.group; step = 5 }) (record { second = one.second; number = one.number; step = landing_step one })) is_raid.hostile)
+
+alone-key : (fleet : Fleet) → attacks fleet ≡ false → key_of (lands fleet) ≡ coming_key fleet
+alone-key fleet alone =
+    sym (ap (λ b. cond b (record { second = fleet.second; number = fleet.group; step = 5 }) (record { second = fleet.second; number = fleet.number; step = landing_step fleet })) alone)
 
 -- nothing is due in the cells that are held, so no event is due
 none-due : (setting : Setting) (held : Held) (f : Stamps (game setting)) (moment : ℕ) → Shows setting held f → IsNothingDue held moment
@@ -69,6 +93,10 @@ none-due setting held f moment shows nothing (item_due class item later) stands 
 none-due setting held f moment shows nothing (lands fleet) stands inside due =
     let not_yet : moment < fleet.second = nothing.fleets fleet (landing-there setting held f fleet shows inside stands) in
     omega (arith, due, not_yet)
+none-due setting held f moment shows nothing (fights raid) stands inside due =
+    let not_yet : moment < stands.one.second = nothing.fleets stands.one (raider-there setting held f raid shows inside stands) in
+    let same : raid.second ≡ stands.one.second = ap (λ (r : Raid). r.second) stands.is in
+    omega (arith, due, not_yet, same)
 
 first-event : (setting : Setting) (held : Held) (f : Stamps (game setting)) (moment : ℕ) (what : Happening) → Shows setting held f → IsFirstDue held moment what
     → IsFirstEvent setting held moment f what
@@ -91,7 +119,13 @@ first-event setting held f moment what shows is =
               never (key_before (key_of (item_due class item later)) key) before
               (ap (λ c. key_before (key_of (item_due c item later)) key) (sym other.sort) ∙ after)
           | lands fleet ↦ λ stands inside in_time before.
-              never (key_before (key_of (lands fleet)) key) before (is.fleets fleet (landing-there setting held f fleet shows inside stands) in_time)
+              never (key_before (key_of (lands fleet)) key) before
+              (ap (λ k. key_before k key) (alone-key fleet stands.1) ∙ is.fleets fleet (landing-there setting held f fleet shows inside stands) in_time)
+          | fights raid ↦ λ stands inside in_time before.
+              let same : raid.second ≡ stands.one.second = ap (λ (r : Raid). r.second) stands.is in
+              never (key_before (key_of (fights raid)) key) before
+              (ap (λ k. key_before k key) (raid-key (view setting.cells f.universe (Planet raid.target)).fleets raid stands)
+              ∙ is.fleets stands.one (raider-there setting held f raid shows inside stands) (omega (arith, same, in_time)))
         ];
       };
     }

@@ -4,8 +4,8 @@ use Rattle.base_ids.specs.declared.cell_id.CellId.{CellId}
 use Rattle.planet_cell.specs.Planet.{fields_of}
 use Rattle.ports.specs.declared.clock.TheConstants.{LATEST}
 use Rattle.rates.specs.Times.{times}
-use Rattle.tick_model.specs.Changes.{Change, seen_after}
-use Rattle.tick_model.specs.Events.{Event, event_change, footprint, second_of}
+use Rattle.tick_model.specs.Changes.{Change}
+use Rattle.tick_model.specs.Events.{Event, event_change, footprint, second_of, seen_after_event}
 use Rattle.tick_model.specs.Production.{planet_second}
 use Rattle.tick_model.specs.Universe.{Item, PlanetFields}
 use Rattle.tick_model.specs.Views.{View, shown}
@@ -42,7 +42,7 @@ change_then rules event held = event_change rules event (seen_then rules event h
 -- a cell that an event needs, after the event
 abbrev pub stand_after : Rules → Event → Held → CellId → Stand → Stand
 stand_after rules event held cell stand =
-    record { second = second_of event; seen = seen_after (change_then rules event held) cell (gained rules (second_of event) stand).seen }
+    record { second = second_of event; seen = seen_after_event event (change_then rules event held) (seen_then rules event held) cell (gained rules (second_of event) stand).seen }
 
 -- what is held of a cell after an event
 abbrev pub held_after : Rules → Event → Held → CellId → Option Stand

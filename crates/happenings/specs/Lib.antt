@@ -13,3 +13,4 @@ pub mod Naming
 pub mod Coming
 pub mod Numbering
 pub mod Joining
+pub mod Fighting

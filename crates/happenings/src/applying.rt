@@ -9,14 +9,19 @@ use crate::held::{Held, PlanetCell};
 use crate::queue::Queue;
 use crate::researching::finish_research;
 use base_ids::{Coord, Player};
-use std::alloc::AllocError;
+use std::alloc::{AllocError, Global};
 use tick_model::Rules;
 
 /// An event happens: the cells that it needs gain until its second, and then the building or the research that runs is done, or the
-/// next unit of a yard, or a fleet lands.
+/// next unit of a yard, or a fleet lands, or the fleets of a group fight.
 ///
-/// It fails only if memory runs out, and the cells then stay as they were. No event of today takes any.
-pub fn apply(cells: &mut Held, rules: &Rules, what: Happening) -> Result<(), AllocError>
+/// It fails only if memory runs out, and the cells then stay as they were. Only a battle takes any.
+pub fn apply(
+    alloc: Global,
+    cells: &mut Held,
+    rules: &Rules,
+    what: Happening,
+) -> Result<(), AllocError>
     requires can { CanHappen cells.old what }
     requires named { IsNamed cells.old }
     ensures happens { OnOk result (Happens rules.now what cells.old cells.new) }
@@ -26,7 +31,13 @@ pub fn apply(cells: &mut Held, rules: &Rules, what: Happening) -> Result<(), All
 {
     match what {
         Happening::Item(due) => cells.finish(rules, due),
-        Happening::Landing(fleet) => cells.land(rules, &fleet),
+        Happening::Coming(fleet) => {
+            if fleet.attacks() {
+                cells.fight(alloc, rules, &fleet)?;
+            } else {
+                cells.land(rules, &fleet);
+            }
+        }
     }
     Ok(())
 }

@@ -1,8 +1,8 @@
 ghost use Rattle.std.specs.Prelude.{◌≡◌};
 ghost use Rattle.happenings.specs.Due.{key_at, sooner_of};
-ghost use Rattle.happenings.specs.Happening.{first_of_two, landing_key};
+ghost use Rattle.happenings.specs.Happening.{first_of_two, coming_key_of};
 
-use crate::happening::{Happening, lands_before};
+use crate::happening::{Happening, comes_before};
 use crate::held::{AccountCell, Held, PlanetCell};
 use crate::queue::Queue;
 use base_ids::{Coord, Player};
@@ -46,9 +46,9 @@ fn sooner(first: Option<Due>, other: Option<Due>) -> Option<Due>
     }
 }
 
-/// The one that lands first of two fleets, each of which may be missing.
-fn sooner_landing(first: Option<Fleet>, other: Option<Fleet>) -> Option<Fleet>
-    ensures { result ≡ sooner_of landing_key first other }
+/// The one that comes first of two fleets, each of which may be missing.
+fn sooner_coming(first: Option<Fleet>, other: Option<Fleet>) -> Option<Fleet>
+    ensures { result ≡ sooner_of coming_key_of first other }
 {
     let Some(fleet) = first else {
         return other;
@@ -59,21 +59,21 @@ fn sooner_landing(first: Option<Fleet>, other: Option<Fleet>) -> Option<Fleet>
     if next.is_before(&fleet) { other } else { first }
 }
 
-/// What comes first of an item and a landing, each of which may be missing.
-fn first_of_two(item: Option<Due>, landing: Option<Fleet>) -> Option<Happening>
-    ensures { result ≡ first_of_two item landing }
+/// What comes first of an item and a fleet, each of which may be missing.
+fn first_of_two(item: Option<Due>, coming: Option<Fleet>) -> Option<Happening>
+    ensures { result ≡ first_of_two item coming }
 {
     let Some(due) = item else {
-        let Some(fleet) = landing else {
+        let Some(fleet) = coming else {
             return None;
         };
-        return Some(Happening::Landing(fleet));
+        return Some(Happening::Coming(fleet));
     };
-    let Some(fleet) = landing else {
+    let Some(fleet) = coming else {
         return Some(Happening::Item(due));
     };
-    if lands_before(&fleet, due) {
-        Some(Happening::Landing(fleet))
+    if comes_before(&fleet, due) {
+        Some(Happening::Coming(fleet))
     } else {
         Some(Happening::Item(due))
     }
@@ -148,14 +148,14 @@ impl Held {
     ghost use Rattle.std.specs.Prelude.{MatchOption};
     ghost use Rattle.happenings.specs.Coming.{FindsFirst};
     ghost use Rattle.happenings.specs.Due.{IsFirstOfQueues, IsFirstOfThese, IsNoneOfQueues, IsNoneOfThese, is_of_planet, is_research};
-    ghost use Rattle.happenings.specs.Happening.{IsFirstDue, IsFirstLanding, IsNoLanding, IsNothingDue};
+    ghost use Rattle.happenings.specs.Happening.{IsFirstComing, IsFirstDue, IsNoneComing, IsNothingDue};
 
     /// What happens first of all that a cell of these owes by a moment.
     pub fn first_due(&self, moment: u64) -> Option<Happening>
         ensures due { MatchOption result (IsNothingDue self.now moment) (IsFirstDue self.now moment) }
         ensures shown { FindsFirst self.now moment result }
     {
-        first_of_two(self.item_due(moment), self.landing_due(moment))
+        first_of_two(self.item_due(moment), self.coming_due(moment))
     }
 
     // The first item that is due by a moment.
@@ -165,13 +165,13 @@ impl Held {
         sooner(self.research_due(moment), self.planet_due(moment))
     }
 
-    // The fleet that lands first by a moment.
-    fn landing_due(&self, moment: u64) -> Option<Fleet>
-        ensures { MatchOption result (IsNoLanding self.now moment) (IsFirstLanding self.now moment) }
+    // The fleet that comes first by a moment.
+    fn coming_due(&self, moment: u64) -> Option<Fleet>
+        ensures { MatchOption result (IsNoneComing self.now moment) (IsFirstComing self.now moment) }
     {
         let mut first = None;
         'planets: for (at, cell) in self.planets.iter() {
-            first = sooner_landing(first, cell.fleets.first_landing(*at, moment));
+            first = sooner_coming(first, cell.fleets.first_coming(*at, moment));
         }
         first
     }

@@ -26,7 +26,7 @@ impl PlanetCell {
     ghost use Rattle.happenings.specs.Gaining.{gained};
 
     /// The planet after it gained until a moment, in memory of its own.
-    fn gained(&self, rules: &Rules, moment: u64) -> Result<PlanetCell, AllocError>
+    pub(crate) fn gained(&self, rules: &Rules, moment: u64) -> Result<PlanetCell, AllocError>
         requires { self.now.second ≤ moment }
         ensures stand { IfOk result (λ cell. planet_stand cell ≡ gained rules.now moment (planet_stand self.now)) }
         ensures at { IfOk result (λ cell. cell.planet.at ≡ self.now.planet.at) }

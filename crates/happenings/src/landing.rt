@@ -4,20 +4,23 @@ ghost use Rattle.base_ids.specs.declared.cell_id.CellId.{CellId};
 ghost use Rattle.fleet_rec.specs.Fleet.{cargo_seen, fleet_seen};
 ghost use Rattle.happenings.specs.Landings.{is_home};
 ghost use Rattle.tick_model.specs.Flights.{landed};
-ghost use Rattle.tick_model.specs.Universe.{PlanetFields, of_planet};
+ghost use Rattle.planet_cell.specs.Planet.{fields_of};
+ghost use Rattle.tick_model.specs.Universe.{of_planet};
 
 use crate::held::{AccountCell, Held, PlanetCell};
 use base_ids::{CellId, Coord, Player};
 use catalog::{Amounts, Mission};
 use fleet_rec::Fleet;
+use planet_cell::Planet;
 use tick_model::Rules;
 
 /// Nothing on board.
 const NO_CARGO: Amounts = Amounts { m: 0, c: 0, d: 0 };
 
-/// The cargo with which a fleet that lands turns back, if it does. A fleet that is back stays.
-fn cargo_back(fleet: &Fleet) -> Option<Amounts>
-    ensures back { (planet : PlanetFields) → option_map cargo_seen result ≡ (landed (fleet_seen fleet.now) (of_planet planet)).back }
+/// The cargo with which a fleet that lands at a planet turns back, if it does. A fleet that is back stays.
+#[tactic(auto, using(crate::proofs::Cargoes::backs))]
+fn cargo_back(planet: &Planet, fleet: &Fleet) -> Option<Amounts>
+    ensures back { option_map cargo_seen result ≡ (landed (fleet_seen fleet.now) (of_planet (fields_of planet.now))).back }
     ensures out { ForSome result (λ cargo. fleet.now.outbound ≡ true) }
 {
     if !fleet.outbound {
@@ -26,7 +29,8 @@ fn cargo_back(fleet: &Fleet) -> Option<Amounts>
     match fleet.mission {
         Mission::Transport => Some(NO_CARGO),
         Mission::Deploy => None,
-        Mission::Harvest | Mission::Attack => Some(fleet.cargo),
+        Mission::Harvest => Some(planet.harvest_cargo(fleet)),
+        Mission::Attack => Some(fleet.cargo),
     }
 }
 
@@ -94,7 +98,8 @@ impl PlanetCell {
         match fleet.mission {
             Mission::Transport => self.planet.supply(fleet.cargo),
             Mission::Deploy => self.planet.moor(fleet.cargo, &fleet.ships),
-            Mission::Harvest | Mission::Attack => {}
+            Mission::Harvest => self.planet.harvest(fleet),
+            Mission::Attack => {}
         }
     }
 }
@@ -109,7 +114,14 @@ impl Held {
     ghost use Rattle.happenings.specs.Held.{IsNamed, held_at};
     ghost use Rattle.happenings.specs.Landings.{CanLand, CanLeave, HasRoom, Leaves, Unloads, is_abroad, is_home};
     ghost use Rattle.tick_model.specs.Events.{lands};
-    ghost use Rattle.tick_model.specs.Flights.{landing};
+    ghost use Rattle.happenings.specs.Orders.{place_order};
+    ghost use Rattle.happenings.specs.declared.held.PlanetCell.{PlanetCell};
+    ghost use Rattle.planet_cell.specs.Planet.{fields_of};
+    ghost use Rattle.std.specs.BTreeMap.{get};
+    ghost use Rattle.std.specs.Option.{ForSome};
+    ghost use Rattle.std.specs.Prelude.{Some};
+    ghost use Rattle.tick_model.specs.Flights.{landed, landing};
+    ghost use Rattle.tick_model.specs.Universe.{of_planet};
     ghost use Rattle.tick_model.specs.Views.{belongs};
     ghost use Rattle.tick_model.specs.declared.rules.Rules.{Rules};
 
@@ -120,9 +132,19 @@ impl Held {
         ensures lands { (cell : CellId) → held_at self.new cell ≡ held_after rules.now (lands (fleet_seen fleet.now)) self.old cell }
         ensures named { IsNamed self.new }
     {
-        let back = cargo_back(fleet);
+        let back = self.cargo_back(fleet);
         self.leave_all(rules, fleet, back);
         self.unload(fleet);
+    }
+
+    // The cargo with which a fleet turns back, if it does.
+    fn cargo_back(&self, fleet: &Fleet) -> Option<Amounts>
+        ensures back { (place : PlanetCell) → get place_order self.now.planets (landing (fleet_seen fleet.now)) ≡ Some place
+            → option_map cargo_seen result ≡ (landed (fleet_seen fleet.now) (of_planet (fields_of place.planet))).back }
+        ensures out { ForSome result (λ cargo. fleet.now.outbound ≡ true) }
+    {
+        let cell = self.planets.get(&fleet.landing())?;
+        cargo_back(&cell.planet, fleet)
     }
 
     // The fleet leaves all its cells.

@@ -2,7 +2,9 @@
 #![tactic(auto)]
 
 mod applying;
+mod combat;
 mod due;
+mod fighting;
 mod gaining;
 mod happening;
 mod held;

@@ -158,7 +158,7 @@ fn first_of_second(rt: &impl Abort, alloc: Global, number: u64) -> Result<Option
 #[test]
 fn of_one_second_the_lower_number_comes_first(rt: HostRuntime) -> Result<(), Fail> {
     let first = first_of_second(&rt, rt.alloc(), 4)?;
-    assert!(rt; first == Some(Happening::Landing(transport(4, TARGET))));
+    assert!(rt; first == Some(Happening::Coming(transport(4, TARGET))));
     let due = Due {
         second: 108,
         number: 5,

@@ -9,9 +9,9 @@ use Rattle.journal_store.specs.Batches.{Batches, HoldsFirst, IsBatch, open_batch
 use Rattle.journal_store.specs.Gates.{AtGate, Stages, batch_size, behind}
 use Rattle.journal_store.specs.Ledger.{Appends, Draws, IsNew, SameEntries, SamePlace, numbered}
 use Rattle.journal_store.specs.Standing.{CanFlush, Stands}
-use Rattle.journal_store.specs.declared.draws.Draw.{Draw}
-use Rattle.journal_store.specs.declared.draws.Draw.TheVariants.{Full, Late, Taken}
-use Rattle.journal_store.specs.declared.draws.Prepared.{Prepared}
+use Rattle.journal_store.specs.declared.drawing.Draw.{Draw}
+use Rattle.journal_store.specs.declared.drawing.Draw.TheVariants.{Full, Late, Taken}
+use Rattle.journal_store.specs.declared.drawing.Prepared.{Prepared}
 use Rattle.journal_store.specs.declared.gate.Gate.{Gate}
 use Rattle.journal_store.specs.declared.gate.Gate.TheVariants.{Missing, Closed, Staged}
 use Rattle.journal_store.specs.declared.journal.Journal.{Journal}

@@ -3,9 +3,9 @@ use Rattle.std.specs.Prelude.{◌≡◌, ◌⊎◌, ℕ, ◌+◌, ◌-◌, ◌<�
 use Rattle.std.specs.VecDeque.{deque_capacity}
 use Rattle.base_ids.specs.declared.numbers.TheConstants.{LAST_NUMBER}
 use Rattle.journal_store.specs.Gates.{batch_size}
-use Rattle.journal_store.specs.declared.draws.Draw.{Draw}
-use Rattle.journal_store.specs.declared.draws.Draw.TheVariants.{Full, Late, Taken}
-use Rattle.journal_store.specs.declared.draws.Prepared.{Prepared}
+use Rattle.journal_store.specs.declared.drawing.Draw.{Draw}
+use Rattle.journal_store.specs.declared.drawing.Draw.TheVariants.{Full, Late, Taken}
+use Rattle.journal_store.specs.declared.drawing.Prepared.{Prepared}
 use Rattle.journal_store.specs.declared.gate.Gate.TheVariants.{Missing, Closed}
 use Rattle.journal_store.specs.declared.journal.Journal.{Journal}
 use Rattle.journal_store.specs.declared.start.Start.{Start}

@@ -3,7 +3,7 @@ ghost use Rattle.std.specs.Prelude.{vec_capacity};
 ghost use Rattle.journal_store.specs.Fitting.{Fits};
 
 use crate::batch::ROOM;
-use crate::draws::{Draw, Prepared};
+use crate::drawing::{Draw, Prepared};
 use crate::gate::Gate;
 use crate::start::Start;
 use base_ids::LAST_NUMBER;

@@ -2,7 +2,7 @@
 #![tactic(auto)]
 
 mod batch;
-mod draws;
+mod drawing;
 mod flush;
 mod gate;
 mod journal;
@@ -13,7 +13,7 @@ mod steps;
 mod tests;
 
 pub use batch::BATCH;
-pub use draws::{Draw, Prepared};
+pub use drawing::{Draw, Prepared};
 pub use journal::Journal;
 pub use laws::{batches_join, journals_stand};
 pub use start::{LAST_START, Start};

@@ -3,6 +3,7 @@ use Rattle.std.proofs.Common.{◌≡◌, ℕ, ◌+◌, ◌-◌, ◌<◌, ◌≤�
 use Rattle.std.proofs.Math.Path.{fun_ext}
 use Rattle.base_ids.specs.Cells.{same_cell}
 use Rattle.base_ids.specs.declared.cell_id.CellId.{CellId}
+use Rattle.base_ids.specs.declared.cell_id.CellId.TheVariants.{Planet}
 use Rattle.happenings.specs.Held.{Stand}
 use Rattle.happenings.proofs.Standing.{IsWell, seen-anew}
 use Rattle.laziness.specs.Laws.{IsNext, NoneDue}
@@ -14,9 +15,11 @@ use Rattle.planet_cell.specs.Yard.{IsAhead}
 use Rattle.rates.specs.Times.{times}
 use Rattle.tick_model.specs.Buildings.{Built}
 use Rattle.tick_model.specs.Changes.{new_queue, owns, put_own, seen_after}
-use Rattle.tick_model.specs.Events.{Event, Owes, footprint, home, item_due, lands}
+use Rattle.tick_model.specs.Events.{Event, Owes, fights, footprint, home, item_due, lands}
+use Rattle.tick_model.specs.Flights.{landing}
 use Rattle.tick_model.specs.Game.{game}
 use Rattle.tick_model.specs.Production.{planet_second}
+use Rattle.tick_model.specs.Raids.{Raid}
 use Rattle.tick_model.specs.Rules.{IsBatch, IsIn, KeepsRules, queue_cell}
 use Rattle.tick_model.specs.Universe.{Buildings, Researches, Yard, Item, PlanetFields, QueueClass, Setting, of_planet, same_class}
 use Rattle.tick_model.specs.Views.{View, belongs, nothing_seen, view}
@@ -26,6 +29,7 @@ use Rattle.tick_model.proofs.Effects.{has-home, seen_of, still-there}
 use Rattle.tick_model.proofs.GameLaws.{game_laws}
 use Rattle.tick_model.proofs.Gains.{advance-keeps}
 use Rattle.tick_model.proofs.Lists.{and-from, and-is, cell-is, cell-itself, class-is, from-filter}
+use Rattle.tick_model.proofs.Nexts.{landing-out}
 use Rattle.tick_model.proofs.Queues.{owed-home, queued, queued-in}
 use Rattle.tick_model.proofs.Seen.{event-seen}
 use Rattle.lazy.specs.Running.{is_running, run_before, run_until, with_yard}
@@ -269,10 +273,19 @@ module _ (setting : Setting) (S : CellId → Bool) (limit moment : ℕ) (f : Sta
       (λ unit. unit-keeps g item later can_g kept unit one.1) next
   each-stays g (lands fleet) can_g kept next =
       let place = home (lands fleet) in
-      let there : IsIn fleet (view setting.cells f.universe place).fleets = subst (IsIn fleet) (fleets-stay g kept place next.inside) next.stands in
+      let there : IsIn fleet (view setting.cells f.universe place).fleets = subst (IsIn fleet) (fleets-stay g kept place next.inside) next.stands.0 in
       let late : limit ≤ fleet.second = (quiet place next.inside).landings fleet there refl in
       let due : fleet.second ≤ until = next.due in
       absurd (omega (arith, late, due))
+  each-stays g (fights raid) can_g kept next =
+      let place = home (fights raid) in
+      let one = next.stands.one in
+      let there : IsIn one (view setting.cells f.universe place).fleets = subst (IsIn one) (fleets-stay g kept place next.inside) next.stands.flies in
+      let target : Planet (landing one) ≡ place = ap Planet (landing-out one next.stands.hostile ∙ sym (ap (λ (r : Raid). r.target) next.stands.is)) in
+      let late : limit ≤ one.second = (quiet place next.inside).landings one there target in
+      let second : raid.second ≡ one.second = ap (λ (r : Raid). r.second) next.stands.is in
+      let due : raid.second ≤ until = next.due in
+      absurd (omega (arith, late, second, due))
 
   -- At the end.
 

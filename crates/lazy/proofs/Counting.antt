@@ -9,6 +9,7 @@ use Rattle.base_ids.specs.declared.cell_id.CellId.{CellId}
 use Rattle.base_ids.specs.declared.cell_id.CellId.TheVariants.{Account, Planet}
 use Rattle.base_ids.specs.declared.coord.Coord.{Coord}
 use Rattle.base_ids.specs.declared.player.Player.{Player}
+use Rattle.fleet_rec.specs.Fleet.{numbered as fleet_with}
 use Rattle.happenings.specs.declared.queue.Queue.{Queue}
 use Rattle.laziness.proofs.Bringing.{never, test}
 use Rattle.orders.specs.Acting.{units_after, units_ordered}
@@ -320,7 +321,7 @@ module _ (setting : Setting) (player : Player) (req : Request) (moment : ℕ) (s
       ]
 
   fleet-leaves : (number : ℕ) (own : CellId → Own) (fleet : Fleet) → KeepsRules setting state → IsLeaving sight player req own fleet
-      → LeavesOwn setting.cells state player (owns_after some own state) (record fleet { number = number; group = number })
+      → LeavesOwn setting.cells state player (owns_after some own state) (fleet_with number fleet)
   fleet-leaves number own fleet fine leaving =
       let place = Planet fleet.origin in
       let there = shown-planet some (view setting.cells state) place leaving.from leaving.leaves in
@@ -338,12 +339,12 @@ module _ (setting : Setting) (player : Player) (req : Request) (moment : ℕ) (s
         owner = leaving.owner;
       }
 
-  sent-written : (who : Player) (number : ℕ) (body : List ℕ) (own : CellId → Own) (fleet : Fleet) → came number ≡ granted body (sends_fleet own (record fleet { number = number; group = number }))
+  sent-written : (who : Player) (number : ℕ) (body : List ℕ) (own : CellId → Own) (fleet : Fleet) → came number ≡ granted body (sends_fleet own (fleet_with number fleet))
       → counted setting.cells who (write some (came number).change state)
-      ≡ counted setting.cells who (with_sent (owns_after some own state) (record fleet { number = number; group = number }) state)
+      ≡ counted setting.cells who (with_sent (owns_after some own state) (fleet_with number fleet) state)
   sent-written who number body own fleet is =
       ap (λ (x : Outcome). counted setting.cells who (write some x.change state)) is
-      ∙ ap (counted setting.cells who) (write-sent some own (record fleet { number = number; group = number }) state)
+      ∙ ap (counted setting.cells who) (write-sent some own (fleet_with number fleet) state)
 
   units-same : (code units few : ℕ) → (code ≡ 0 → ⊥) → units ≡ units + cond (eqb code 0) few 0
   units-same code units few reason =
@@ -375,7 +376,7 @@ module _ (setting : Setting) (player : Player) (req : Request) (moment : ℕ) (s
       ∙ granted-units number units body (new_queue own item.cell item.class (queue_seen sight item.cell item.class ++ new ∷ [])) (is number)
   units-made number fine (sends_out body own fleet given leaving is) =
       let units = counted setting.cells player state in
-      let new = record fleet { number = number; group = number } in
+      let new = fleet_with number fleet in
       sent-written player number body own fleet (is number)
       ∙ counts-sent setting.cells state player (owns_after some own state) new (fleet-leaves number own fleet fine leaving)
       ∙ none-more units (units_ordered req) leaving.units
@@ -397,5 +398,5 @@ module _ (setting : Setting) (player : Player) (req : Request) (moment : ℕ) (s
       ∙ others-joined setting.cells state player (owns_after some own state) (record item { number = number }) (alike-after own alike) (order-joins number queue item fine joining) other apart
   units-other number other apart fine (sends_out body own fleet given leaving is) =
       sent-written other number body own fleet (is number)
-      ∙ others-sent setting.cells state player (owns_after some own state) (record fleet { number = number; group = number }) (fleet-leaves number own fleet fine leaving) other apart
+      ∙ others-sent setting.cells state player (owns_after some own state) (fleet_with number fleet) (fleet-leaves number own fleet fine leaving) other apart
   units-other number other apart fine (calls_back body fleet_number fleet account caller none recall found out is) = counts-called other number fleet_number.f body (is number)

@@ -13,6 +13,7 @@ use Rattle.base_ids.specs.declared.coord.Coord.{Coord}
 use Rattle.base_ids.specs.declared.fleet_number.FleetNumber.{FleetNumber}
 use Rattle.base_ids.specs.declared.player.Player.{Player}
 use Rattle.catalog.specs.declared.kind.Kind.{Kind}
+use Rattle.catalog.specs.declared.mission.Mission.TheVariants.{Attack}
 use Rattle.fleet_rec.specs.Fleet.{fleet_seen, numbered as fleet_with}
 use Rattle.fleet_rec.specs.Fleets.{last_numbered}
 use Rattle.fleet_rec.specs.declared.fleet.Fleet.{Fleet as FleetRecord}
@@ -29,21 +30,21 @@ use Rattle.reply_text.specs.OrderLines.{arrives_line, back_line, starts_line, wa
 use Rattle.request_text.specs.declared.request.Request.{Request}
 use Rattle.request_text.specs.declared.request.Request.TheVariants.{Planet as PlanetOf, Account as AccountOf, Fleets as FleetsOf, System as SystemOf, Build, Research, Yard as YardOf, Set, Send, Join, Recall}
 use Rattle.tick_model.proofs.Lists.{and-is, number-is, player-from, same_number}
-use Rattle.tick_model.proofs.Outcomes.{AllSeenAlike, GoesTo, IsOwn, goes-to, send-goes}
+use Rattle.tick_model.proofs.Outcomes.{AllSeenAlike, GoesTo, IsOwn, goes-to, may-join, send-goes}
 use Rattle.tick_model.proofs.Owns.{IsAlike, alike-itself, put-alike}
 use Rattle.tick_model.specs.Buildings.{pays, started}
 use Rattle.tick_model.specs.Changes.{Change, new_fleet, new_owns, new_queue, no_change, owns, sends_fleet}
 use Rattle.tick_model.specs.Flights.{left_by, recalled_at, turned}
 use Rattle.tick_model.specs.Lines.{account_text, fleet_lines, own_fleets, planet_text}
 use Rattle.tick_model.specs.Refusals.{build_refusal, research_refusal, yard_refusal}
-use Rattle.tick_model.specs.Requests.{Answer, Outcome, Sight, errand_of, granted, is_flown, on_account, on_own, ordered, outcome, own_seen, owner_there, place_behind, queue_seen, queues, queues_batch, queues_research, recalls, recalls_own, refused, sends, sends_on, sets, shows, system_lines, tells, tells_fleets, tells_system, with_planet, builds, researches, yards}
+use Rattle.tick_model.specs.Requests.{Answer, Outcome, Sight, companions_seen, errand_of, granted, joins_on, joins_raid, on_account, on_own, ordered, outcome, own_seen, owner_there, place_behind, queue_seen, queues, raiders_seen, queues_batch, queues_research, recalls, recalls_own, refused, sends, sends_on, sets, shows, system_lines, tells, tells_fleets, tells_system, with_planet, builds, researches, yards}
 use Rattle.tick_model.specs.Researches.{pays_research, started_research}
 use Rattle.tick_model.specs.Rules.{queue_cell}
-use Rattle.tick_model.specs.Sending.{Errand, can_go, departed, fleet_of, fuel_of, has_ships, launched, send_refusal}
+use Rattle.tick_model.specs.Sending.{Errand, arrival_of, can_go, departed, fleet_of, fuel_of, has_ships, join_refusal, launched, seconds_to, send_refusal, with_group}
 use Rattle.tick_model.specs.Universe.{AccountFields, Buildings, Researches, Yard, Fleet, Item, Own, PlanetFields, QueueClass, same_class, of_account, of_nothing, of_planet}
 use Rattle.tick_model.specs.Views.{View, belongs}
 use Rattle.tick_model.specs.Yards.{begun, pays_batch}
-use Rattle.tick_model.specs.declared.codes.TheConstants.{NOT_BUILT, NOT_OUTBOUND, NOT_YOURS, NO_FLEET, NO_PLANET, NO_PLAYER}
+use Rattle.tick_model.specs.declared.codes.TheConstants.{NOT_OUTBOUND, NOT_YOURS, NO_FLEET, NO_PLANET, NO_PLAYER}
 
 -- a cell is at the place that is named, if one is
 abbrev pub is_named : Option Coord → CellId → Bool
@@ -103,7 +104,6 @@ pub record IsLeaving (sight : Sight) (player : Player) (req : Request) (own : Ce
   pub from_is : from_place player (flown sight player) req ≡ Some fleet.origin
   pub to_is : to_place player (flown sight player) req ≡ elsewhere fleet.origin fleet.target
   pub number : fleet.number ≡ 0
-  pub group : fleet.group ≡ 0
   pub queue : queue_ordered player req ≡ None
   pub ordered : (fleets : List Fleet) → fleet_ordered req fleets ≡ last_fleet fleets
   pub units : units_ordered req ≡ 0
@@ -124,7 +124,7 @@ pub data ComesTo (sight : Sight) (player : Player) (req : Request) (came : ℕ �
       → ((number : ℕ) → came number ≡ granted body (new_queue own item.cell item.class (queue_seen sight item.cell item.class ++ record item { number = number } ∷ [])))
       → ComesTo sight player req came
   sends_out : (body : List ℕ) (own : CellId → Own) (fleet : Fleet) → IsGranted sight player req → IsLeaving sight player req own fleet
-      → ((number : ℕ) → came number ≡ granted body (sends_fleet own (record fleet { number = number; group = number }))) → ComesTo sight player req came
+      → ((number : ℕ) → came number ≡ granted body (sends_fleet own (fleet_with number fleet))) → ComesTo sight player req came
   calls_back : (body : List ℕ) (number : FleetNumber) (fleet : Fleet) (account : AccountFields) → own_seen sight (Account player) ≡ of_account account → OrdersNone player req
       → req ≡ Recall number → fleet_of player number.f (flown sight player) ≡ Some fleet → fleet.outbound ≡ true
       → ((count : ℕ) → came count ≡ granted body (new_fleet (owns sight.seen) number.f (called_at sight.moment))) → ComesTo sight player req came
@@ -281,17 +281,20 @@ stands-elsewhere : (sight : Sight) (from to : Coord) (planet : PlanetFields) (b 
 stands-elsewhere sight from to planet true is = tt
 stands-elsewhere sight from to planet false is = (planet, is)
 
--- a fleet that isn't refused is sent
-sends-comes : (sight : Sight) (player : Player) (req : Request) (errand : Errand) (account : AccountFields) (planet : PlanetFields) → IsOwn sight player errand.from account planet
-    → has_ships planet.units errand.ships ≡ true → can_go player errand (own_seen sight (Planet errand.to)) ≡ true
+-- a fleet that isn't refused leaves
+leaves-comes : (sight : Sight) (player : Player) (req : Request) (errand : Errand) (account : AccountFields) (planet : PlanetFields) (group second : ℕ) (body : List ℕ) (came : ℕ → Outcome)
+    → IsOwn sight player errand.from account planet → has_ships planet.units errand.ships ≡ true → can_go player errand (own_seen sight (Planet errand.to)) ≡ true
     → from_place player (flown sight player) req ≡ Some errand.from → to_place player (flown sight player) req ≡ elsewhere errand.from errand.to
     → queue_ordered player req ≡ None → ((fleets : List Fleet) → fleet_ordered req fleets ≡ last_fleet fleets) → units_ordered req ≡ 0
-    → ComesTo sight player req (λ number. sends (at_number number sight) player errand account planet)
-sends-comes sight player req errand account planet own has goes near far queue sent few =
+    → ((number : ℕ) → came number
+    ≡ granted body (sends_fleet (with_planet sight errand.from (departed account planet errand))
+    (fleet_with number (with_group group second (launched sight.rules.speed 0 sight.moment player account (owner_there player (own_seen sight (Planet errand.to))) errand)))))
+    → ComesTo sight player req came
+leaves-comes sight player req errand account planet group second body came own has goes near far queue sent few is =
     let target = own_seen sight (Planet errand.to) in
     let to = goes-to player errand target goes in
-    let fleet = launched sight.rules.speed 0 sight.moment player account (owner_there player target) errand in
-    sends_out (arrives_line fleet.second (fuel_of account errand)) (with_planet sight errand.from (departed account planet errand)) fleet
+    let fleet = with_group group second (launched sight.rules.speed 0 sight.moment player account (owner_there player target) errand) in
+    sends_out body (with_planet sight errand.from (departed account planet errand)) fleet
     (record {
       account = account;
       caller = own.caller;
@@ -313,12 +316,40 @@ sends-comes sight player req errand account planet own has goes near far queue s
       from_is = near;
       to_is = far;
       number = refl;
-      group = refl;
       queue = queue;
       ordered = sent;
       units = few;
     })
-    (λ number. refl)
+    is
+
+-- a fleet that is sent
+sends-comes : (sight : Sight) (player : Player) (req : Request) (errand : Errand) (account : AccountFields) (planet : PlanetFields) → IsOwn sight player errand.from account planet
+    → has_ships planet.units errand.ships ≡ true → can_go player errand (own_seen sight (Planet errand.to)) ≡ true
+    → from_place player (flown sight player) req ≡ Some errand.from → to_place player (flown sight player) req ≡ elsewhere errand.from errand.to
+    → queue_ordered player req ≡ None → ((fleets : List Fleet) → fleet_ordered req fleets ≡ last_fleet fleets) → units_ordered req ≡ 0
+    → ComesTo sight player req (λ number. sends (at_number number sight) player errand account planet)
+sends-comes sight player req errand account planet own has goes near far queue sent few =
+    let second = sight.moment + seconds_to sight.rules.speed account errand in
+    leaves-comes sight player req errand account planet 0 second (arrives_line second (fuel_of account errand)) _ own has goes near far queue sent few (λ number. refl)
+
+-- a group has a number
+some-group : (group : ℕ) → 1 ≤ group → eqb group 0 ≡ false
+some-group group some = grind (arith, nat_tests)
+
+-- a fleet that joins a raid
+joins-comes : (sight : Sight) (player : Player) (req : Request) (group : FleetNumber) (errand : Errand) (account : AccountFields) (planet : PlanetFields) → IsOwn sight player errand.from account planet
+    → has_ships planet.units errand.ships ≡ true → can_go player errand (own_seen sight (Planet errand.to)) ≡ true
+    → from_place player (flown sight player) req ≡ Some errand.from → to_place player (flown sight player) req ≡ elsewhere errand.from errand.to
+    → queue_ordered player req ≡ None → ((fleets : List Fleet) → fleet_ordered req fleets ≡ last_fleet fleets) → units_ordered req ≡ 0
+    → ComesTo sight player req (λ number. joins_raid (at_number number sight) player group.f errand account planet)
+joins-comes sight player req group errand account planet own has goes near far queue sent few =
+    let second = arrival_of (raiders_seen sight errand.to group.f) in
+    let body = arrives_line second (fuel_of account errand) in
+    let after = with_planet sight errand.from (departed account planet errand) in
+    let flies = launched sight.rules.speed 0 sight.moment player account (owner_there player (own_seen sight (Planet errand.to))) errand in
+    let given = some-group group.f group.from in
+    leaves-comes sight player req errand account planet group.f second body _ own has goes near far queue sent few
+    (λ number i. granted body (sends_fleet after (record (with_group group.f second flies) { number = number; group = cond (sym given i) number group.f })))
 
 calls-at : (sight : Sight) (player : Player) (number : FleetNumber) (fleet : Fleet) (account : AccountFields) (b : Bool) → fleet.outbound ≡ b → own_seen sight (Account player) ≡ of_account account
     → fleet_of player number.f (flown sight player) ≡ Some fleet
@@ -339,10 +370,6 @@ account-comes : (sight : Sight) (player : Player) (req : Request) (caller : Own)
 account-comes sight player req (of_account account) grant is gives = gives account is
 account-comes sight player req of_nothing grant is gives = refuses NO_PLAYER (λ none. absurd (omega arith)) (λ number. refl)
 account-comes sight player req (of_planet planet) grant is gives = refuses NO_PLAYER (λ none. absurd (omega arith)) (λ number. refl)
-
-flown-comes : (sight : Sight) (player : Player) (req : Request) (b : Bool) (grant : ℕ → Outcome) → ComesTo sight player req grant → ComesTo sight player req (λ number. cond b (grant number) (refused sight NOT_BUILT))
-flown-comes sight player req true grant gives = gives
-flown-comes sight player req false grant gives = refuses NOT_BUILT (λ none. absurd (omega arith)) (λ number. refl)
 
 pub comes-to : (sight : Sight) (player : Player) (req : Request) → ComesTo sight player req (λ number. outcome (at_number number sight) player req)
 comes-to sight player (PlanetOf at) =
@@ -389,16 +416,27 @@ comes-to sight player (Set at work tenths) =
 comes-to sight player (Send from to mission setting ships cargo) =
     let req = Send from to mission setting ships cargo in
     let errand = errand_of from to mission setting.p ships.n cargo in
-    flown-comes sight player req (is_flown mission) _ (at-own sight player req from (λ number. sends_on (at_number number sight) player errand) (λ account planet own.
+    at-own sight player req from (λ number. sends_on (at_number number sight) player errand) (λ account planet own.
     let fleets = length (own_fleets player (flown sight player)) in
     let target = own_seen sight (Planet to) in
     unless-comes sight player req (send_refusal player account fleets planet target errand) (λ number. sends (at_number number sight) player errand account planet) (λ none.
     let goes = send-goes player account fleets planet target errand none in
-    sends-comes sight player req errand account planet own goes.0 goes.1 refl refl refl (λ all. refl) refl)))
+    sends-comes sight player req errand account planet own goes.0 goes.1 refl refl refl (λ all. refl) refl))
 comes-to sight player (Recall fleet) =
     account-comes sight player (Recall fleet) (own_seen sight (Account player)) (λ number. recalls_own (at_number number sight) player fleet.f) refl (λ account caller.
     calls-comes sight player fleet account (fleet_of player fleet.f (flown sight player)) caller refl)
-comes-to sight player (Join fleet from to setting ships cargo) = refuses NOT_BUILT (λ none. absurd (omega arith)) (λ number. refl)
+comes-to sight player (Join group from to setting ships cargo) =
+    let req = Join group from to setting ships cargo in
+    let errand = errand_of from to Attack setting.p ships.n cargo in
+    at-own sight player req from (λ number. joins_on (at_number number sight) player group.f errand) (λ account planet own.
+    let fleets = length (own_fleets player (flown sight player)) in
+    let target = own_seen sight (Planet to) in
+    let raid = raiders_seen sight to group.f in
+    let companions = length (companions_seen sight to group.f) in
+    unless-comes sight player req (join_refusal sight.rules.speed sight.moment player account fleets planet target errand raid companions)
+    (λ number. joins_raid (at_number number sight) player group.f errand account planet) (λ none.
+    let may = may-join sight player errand account planet raid fleets companions none in
+    joins-comes sight player req group errand account planet own may.has may.goes refl refl refl (λ all. refl) refl))
 
 -- The answer doesn't depend on the number.
 pub answer-same : (sight : Sight) (player : Player) (req : Request) (came : ℕ → Outcome) (one other : ℕ) → ComesTo sight player req came → (came one).answer ≡ (came other).answer
@@ -501,11 +539,13 @@ fleets-numbered : (b : Bool) (number : ℕ) (v : View) (own : Own) (left : List 
 fleets-numbered true number v own left zero one is = ap (λ fs. record v { own = own; queue = v.queue; fleets = fs }) (sym (fleet-last number left zero ∙ ap (λ f. left ++ f ∷ []) is))
 fleets-numbered false number v own left zero one is = refl
 
-with-number : (number : ℕ) (fleet : Fleet) → fleet.group ≡ 0 → fleet_with number (record fleet { number = 0; group = 0 }) ≡ record fleet { number = number; group = number }
-with-number number fleet none = refl
+group-twice : (b : Bool) (number group : ℕ) → eqb group 0 ≡ b → cond (eqb (cond b 0 group) 0) number (cond b 0 group) ≡ cond b number group
+group-twice true number group is = refl
+group-twice false number group is = ap (λ b. cond b number group) is
 
-as-zero : (fleet : Fleet) → fleet.number ≡ 0 → fleet.group ≡ 0 → record fleet { number = 0; group = 0 } ≡ fleet
-as-zero fleet number group = (λ i. record fleet { number = sym number i; group = sym group i })
+-- a number that is given after 0 is the one that counts
+numbered-twice : (number : ℕ) (fleet : Fleet) → fleet_with number (fleet_with 0 fleet) ≡ fleet_with number fleet
+numbered-twice number fleet = (λ i. record fleet { number = number; group = group-twice (eqb fleet.group 0) number fleet.group refl i })
 
 -- the fleets of the caller's account that has such a fleet end with it
 pub record EndsWith (fleets : List Fleet) (fleet : Fleet) : Type 0 where
@@ -536,7 +576,7 @@ view-ordered sight player req came number ordered fleets cell v own (orders body
     ∙ ap (λ (x : Outcome). number_seen number (Some (ItemOrdered queue)) cell (after_view x.change cell v own)) (sym (is 0))
     ∙ ap (λ o. number_seen number o cell (after_view (came 0).change cell v own)) (sym (item-ordered ordered _ _ queue place marks))
 view-ordered sight player req came number ordered fleets cell v own (sends_out body owns_now fleet given leaving is) zero marks had =
-    let zeroth = record fleet { number = 0; group = 0 } in
+    let zeroth = fleet_with 0 fleet in
     let left = filter (belongs cell) (filter_map Some v.fleets) in
     let mine : belongs (Account player) fleet ≡ true = subst (λ k. belongs (Account k) fleet ≡ true) leaving.owner (own-belongs fleet) in
     let ends : fleets ≡ filter (belongs (Account player)) (filter_map Some had.0) ++ zeroth ∷ [] =
@@ -545,7 +585,7 @@ view-ordered sight player req came number ordered fleets cell v own (sends_out b
     let last : fleet_ordered req fleets ≡ Some zeroth = leaving.ordered fleets ∙ ap last_fleet ends ∙ last-is (filter (belongs (Account player)) (filter_map Some had.0)) zeroth in
     let sent = fleet-ordered ordered _ _ zeroth leaving.queue last marks in
     ap (λ (x : Outcome). after_view x.change cell v own) (is number)
-    ∙ fleets-numbered (belongs cell fleet) number v own left zeroth (record fleet { number = number; group = number }) refl
+    ∙ fleets-numbered (belongs cell fleet) number v own left zeroth (fleet_with number fleet) (numbered-twice number fleet)
     ∙ (λ i. let w = after_view (sends_fleet owns_now zeroth) cell v own in cond (belongs cell (sym sent.seen i)) (record w { fleets = last_numbered number w.fleets }) w)
     ∙ ap (λ (x : Outcome). number_seen number (Some (FleetSent sent.sent)) cell (after_view x.change cell v own)) (sym (is 0))
     ∙ ap (λ o. number_seen number o cell (after_view (came 0).change cell v own)) (sym sent.is)

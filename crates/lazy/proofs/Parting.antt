@@ -9,6 +9,7 @@ use Rattle.base_ids.specs.declared.cell_id.CellId.TheVariants.{Account, Planet}
 use Rattle.base_ids.specs.declared.coord.Coord.{Coord}
 use Rattle.base_ids.specs.declared.fleet_number.FleetNumber.{FleetNumber}
 use Rattle.base_ids.specs.declared.player.Player.{Player}
+use Rattle.fleet_rec.specs.Fleet.{numbered as fleet_with}
 use Rattle.laziness.proofs.Bringing.{never, test}
 use Rattle.lazy.proofs.Outcoming.{ComesTo, IsGranted, IsLeaving, StandsAt, after_view, at_number, called_at, calls_back, comes-to, flown, is_named, keeps, orders, refuses, sends_out}
 use Rattle.orders.specs.Acting.{elsewhere, fleets_after, from_place, origin_of, outbound, target_of, to_place}
@@ -287,7 +288,7 @@ module _ (setting : Setting) (player : Player) (req : Request) (moment : ℕ) (s
       apart-fleets number (keeps body own given none alike leaves is) = ap (λ (x : Outcome). fleets_after x.change cell (seen cell).fleets) (is number) ∙ same-fleets
       apart-fleets number (orders body own queue item given place joining alike leaves is) = ap (λ (x : Outcome). fleets_after x.change cell (seen cell).fleets) (is number) ∙ same-fleets
       apart-fleets number (sends_out body own fleet given leaving is) =
-          let new = record fleet { number = number; group = number } in
+          let new = fleet_with number fleet in
           ap (λ (x : Outcome). fleets_after x.change cell (seen cell).fleets) (is number)
           ∙ ap (λ b. filter (belongs cell) (filter_map Some (seen cell).fleets) ++ cond b (new ∷ []) []) (not-theirs fleet (leaving-about own fleet leaving))
           ∙ same-fleets

@@ -8,8 +8,7 @@ use Rattle.std.specs.List.{Contains}
 use Rattle.account_cell.specs.Account.{account_fields, research_item, research_of}
 use Rattle.account_cell.specs.declared.account.Account.{Account}
 use Rattle.base_bytes.specs.Base.{all_items}
-use Rattle.base_bytes.specs.Sound.{ArriveTogether, HasSlots, IsSound, IsSoundFleet, RunsAfter, outbound_in, planets_owned, units_counted, units_owned}
-use Rattle.base_bytes.specs.declared.base.TheConstants.{MOST_IN_GROUP}
+use Rattle.base_bytes.specs.Sound.{HasSlots, IsSound, IsSoundFleet, RunsAfter, planets_owned, units_counted, units_owned}
 use Rattle.base_bytes.specs.declared.base.Base.{Base}
 use Rattle.base_bytes.proofs.Fresh.{fresh-levels, fresh-techs}
 use Rattle.base_bytes.proofs.Owned.{player-same}
@@ -23,9 +22,11 @@ use Rattle.planet_cell.specs.declared.planet.Planet.{Planet}
 use Rattle.reply_text.specs.declared.reply.Reply.{Reply}
 use Rattle.request_text.specs.declared.request.Request.{Request}
 use Rattle.tick_model.specs.Limits.{KeepsLevels, KeepsTechs}
-use Rattle.tick_model.specs.Rules.{same_order}
+use Rattle.tick_model.specs.Raids.{outbound_in}
+use Rattle.tick_model.specs.Rules.{ArriveTogether, same_order}
 use Rattle.tick_model.specs.Views.{ships_of, units_left}
 use Rattle.tick_model.specs.Yards.{count_of}
+use Rattle.tick_model.specs.declared.codes.TheConstants.{MOST_IN_GROUP}
 use Rattle.lazy.specs.Keeping.{Asks, KeepsSome}
 use Rattle.lazy.specs.declared.universe.LazyUniverse.{LazyUniverse}
 

@@ -148,7 +148,7 @@ names-from seen player (Recall number) at is = origin-belongs (fleet_of player n
 names-from seen player AccountOf at is = absurd (cc is)
 names-from seen player FleetsOf at is = absurd (cc is)
 names-from seen player (SystemOf system) at is = absurd (cc is)
-names-from seen player (Join number from to setting ships cargo) at is = absurd (cc is)
+names-from seen player (Join number from to setting ships cargo) at is = either-first (same_cell (Planet from) (Planet at)) (same_cell (Planet to) (Planet at)) (same-place from at is)
 
 names-to : (seen : CellId → View) (player : Player) (req : Request) (at : Coord) → to_place player (seen (Account player)).fleets req ≡ Some at → names seen player req (Planet at) ≡ true
 names-to seen player (Send from to mission setting ships cargo) at is = either-second (same_cell (Planet from) (Planet at)) (same_cell (Planet to) (Planet at)) (elsewhere-is from to at is)
@@ -161,7 +161,7 @@ names-to seen player (Set place work tenths) at is = absurd (cc is)
 names-to seen player AccountOf at is = absurd (cc is)
 names-to seen player FleetsOf at is = absurd (cc is)
 names-to seen player (SystemOf system) at is = absurd (cc is)
-names-to seen player (Join number from to setting ships cargo) at is = absurd (cc is)
+names-to seen player (Join number from to setting ships cargo) at is = either-second (same_cell (Planet from) (Planet at)) (same_cell (Planet to) (Planet at)) (elsewhere-is from to at is)
 
 names-system : (seen : CellId → View) (player : Player) (req : Request) (system : System) (cell : CellId) → system_named req ≡ Some system → in_system system cell ≡ true → names seen player req cell ≡ true
 names-system seen player (SystemOf named) system cell is inside = let same : named ≡ system = cc is in ap (λ x. in_system x cell) same ∙ inside

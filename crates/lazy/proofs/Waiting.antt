@@ -1,7 +1,7 @@
 -- The events that cells which are held still bring, of which each event takes one away.
 use Rattle.std.proofs.Common.{◌≡◌, ℕ, ◌+◌, ◌-◌, ◌<◌, ◌≤◌, Bool, true, false, cond, List, [], ◌∷◌, ◌||◌, ◌&&◌, filter, sum_by, refl, ap, ◌∙◌, sym, subst, arith, inl, inr, Option, Some, None}
 use Rattle.std.proofs.lemmas.List.Sums.{sum_by-cons}
-use Rattle.std.specs.List.{filter_map}
+use Rattle.std.specs.List.{filter_map, list_any}
 use Rattle.std.specs.Prelude.{is_some, option_map}
 use Rattle.base_ids.specs.Cells.{same_cell}
 use Rattle.base_ids.specs.declared.cell_id.CellId.{CellId}
@@ -19,18 +19,24 @@ use Rattle.happenings.specs.declared.happening.Happening.{Happening}
 use Rattle.happenings.specs.declared.held.Held.{Held}
 use Rattle.happenings.proofs.Acting.{held-seen}
 use Rattle.reply_text.specs.declared.units.Units.{Units}
-use Rattle.tick_model.specs.Events.{Event, Owes, effect, footprint, home, item_due, lands, second_of}
+use Rattle.tick_model.specs.Battles.{comes_back}
+use Rattle.tick_model.specs.Changes.{same_flight}
+use Rattle.tick_model.specs.Events.{Event, IsRaid, Owes, effect, fights, footprint, home, item_due, lands, second_of}
 use Rattle.tick_model.specs.Flights.{back_at, landing, turned, turns}
 use Rattle.tick_model.specs.Game.{events_left, game, landings_left}
+use Rattle.tick_model.specs.Raids.{Raid, is_attack}
 use Rattle.tick_model.specs.Rules.{IsIn, KeepsRules}
 use Rattle.tick_model.specs.Universe.{Buildings, Researches, Yard, Fleet, Item, Own, QueueClass, Setting, State, of_account, of_nothing, of_planet, same_class}
 use Rattle.tick_model.specs.Views.{View, belongs, nothing_seen, queue_in, view}
 use Rattle.tick_model.specs.declared.rules.Rules.{Rules}
+use Rattle.tick_model.proofs.Battles.{back-belongs, comes-back}
+use Rattle.tick_model.proofs.Battling.{after_battle, battle-is, came_fought, sums-fall, sums-less}
 use Rattle.tick_model.proofs.Effects.{StandsBy, effect-is, event-ends, other-queue, queue-after, seen_of as seen_by}
 use Rattle.tick_model.proofs.Gains.{advance-keeps, gains-owe, view-advanced}
 use Rattle.tick_model.proofs.Landings.{back-out, came_landed, flies-in, landing-belongs, landing-is, sum-changed, turned-belongs, weight}
-use Rattle.tick_model.proofs.Lists.{and-is, cell-is, class-is, fails}
-use Rattle.tick_model.proofs.Writes.{became_at}
+use Rattle.tick_model.proofs.Lists.{and-is, cell-is, class-is, fails, in-any, same_number}
+use Rattle.tick_model.proofs.Raids.{IsRaidIn, raid-in, target-belongs}
+use Rattle.tick_model.proofs.Writes.{became_at, became_in}
 use Rattle.lazy.specs.Planning.{HoldsSame}
 use Rattle.lazy.specs.Running.{YardsRun, first_turn, is_running, ran, run_before, run_until}
 use Rattle.lazy.proofs.Units.{ticks-no-more}
@@ -243,17 +249,107 @@ module _ (setting : Setting) (u : State) (fleet : Fleet) (fine : KeepsRules sett
             omega (arith, changed, none, buildings, researches, yard))
       ]
 
+abbrev one_if : Bool → ℕ
+one_if true = 1
+one_if false = 0
+
+-- what comes back of a fleet lands once more
+back-counted : (cell : CellId) (left : List Fleet) (old : Fleet) (o : Option Fleet) → comes_back left old ≡ o → weight (counted_by cell) o ≤ one_if (belongs cell old)
+back-counted cell left old None is = omega arith
+back-counted cell left old (Some new) is =
+    let back = comes-back left old new is in
+    let once : landings_of new ≡ 1 = ap landings_of (sym back.is) in
+    elim (test (belongs cell new)) [
+      | inl has ↦
+          (let counts : counted_by cell new ≡ 1 = ap (λ b. cond b (landings_of new) 0) has ∙ once in
+          let was : one_if (belongs cell old) ≡ 1 = ap one_if (back-belongs left cell old new is has) in
+          omega (arith, counts, was))
+      | inr apart ↦ (let counts : counted_by cell new ≡ 0 = ap (λ b. cond b (landings_of new) 0) apart in omega (arith, counts))
+    ]
+
+counted-least : (cell : CellId) (fleet : Fleet) → one_if (belongs cell fleet) ≤ counted_by cell fleet
+counted-least cell fleet =
+    elim (belongs cell fleet) as (λ b. one_if b ≤ cond b (landings_of fleet) 0) [
+      | true ↦ lands-again fleet.outbound
+      | false ↦ omega arith
+    ]
+
+became-less : (cell : CellId) (left : List Fleet) (old : Fleet) (b : Bool) → weight (counted_by cell) (cond b (comes_back left old) (Some old)) ≤ counted_by cell old
+became-less cell left old true =
+    let back = back-counted cell left old (comes_back left old) refl in
+    let least = counted-least cell old in
+    omega (arith, back, least)
+became-less cell left old false = omega arith
+
+-- A battle leaves no cell with more, and its place with fewer.
+module _ (setting : Setting) (u : State) (raid : Raid) (fine : KeepsRules setting u) (stands : IsRaid (view setting.cells u (Planet raid.target)).fleets raid) where
+  is_in : IsRaidIn u raid
+  is_in = raid-in setting u raid fine stands
+
+  abbrev fought_then : State
+  fought_then = effect setting (fights raid) u
+
+  abbrev left : List Fleet
+  left = (came_fought setting raid u is_in.planet).fleets
+
+  fought-is : fought_then ≡ after_battle setting raid u is_in.planet
+  fought-is = battle-is setting raid u is_in.planet is_in.there
+
+  landings-then : (cell : CellId) → landings_left (filter (belongs cell) fought_then.fleets) ≡ sum_by (counted_by cell) (filter_map (became_in raid.fleets (comes_back left)) u.fleets)
+  landings-then cell =
+      ap (λ (s : State). landings_left (filter (belongs cell) s.fleets)) fought-is
+      ∙ sum-filtered (belongs cell) landings_of (filter_map (became_in raid.fleets (comes_back left)) u.fleets)
+
+  landings-now : (cell : CellId) → landings_left (filter (belongs cell) u.fleets) ≡ sum_by (counted_by cell) u.fleets
+  landings-now cell = sum-filtered (belongs cell) landings_of u.fleets
+
+  items-stay : (cell : CellId) (class : QueueClass) → events_left (queue_in fought_then.items cell class) ≡ events_left (queue_in u.items cell class)
+  items-stay cell class = ap (λ (s : State). events_left (queue_in s.items cell class)) fought-is
+
+  battle-less : (cell : CellId) → waiting_at setting fought_then cell ≤ waiting_at setting u cell
+  battle-less cell =
+      let less = sums-less (counted_by cell) (became_in raid.fleets (comes_back left)) u.fleets (λ fleet is. became-less cell left fleet (list_any (same_flight fleet) raid.fleets)) in
+      let after = landings-then cell in
+      let before = landings-now cell in
+      let buildings = items-stay cell Buildings in
+      let researches = items-stay cell Researches in
+      let yard = items-stay cell Yard in
+      omega (arith, less, after, before, buildings, researches, yard)
+
+  battle-falls : waiting_at setting fought_then (Planet raid.target) < waiting_at setting u (Planet raid.target)
+  battle-falls =
+      let place = Planet raid.target in
+      let one = is_in.each is_in.one is_in.has_one in
+      let out = (and-is is_in.one.outbound (is_attack is_in.one.mission) one.hostile).0 in
+      let has = target-belongs raid.target is_in.one out one.target in
+      let twice : counted_by place is_in.one ≡ 2 = ap (λ b. cond b (landings_of is_in.one) 0) has ∙ ap (λ b. cond b 2 1) out in
+      let named : list_any (same_flight is_in.one) raid.fleets ≡ true = in-any (same_flight is_in.one) is_in.one raid.fleets is_in.has_one (same_number is_in.one.number) in
+      let once : weight (counted_by place) (became_in raid.fleets (comes_back left) is_in.one) ≤ one_if (belongs place is_in.one) =
+      subst (λ b. weight (counted_by place) (cond b (comes_back left is_in.one) (Some is_in.one)) ≤ one_if (belongs place is_in.one)) (sym named)
+      (back-counted place left is_in.one (comes_back left is_in.one) refl) in
+      let most : one_if (belongs place is_in.one) ≡ 1 = ap one_if has in
+      let less = sums-fall (counted_by place) (became_in raid.fleets (comes_back left)) is_in.one u.fleets
+      (λ fleet is. became-less place left fleet (list_any (same_flight fleet) raid.fleets)) one.flies (omega (arith, twice, once, most)) in
+      let after = landings-then place in
+      let before = landings-now place in
+      let buildings = items-stay place Buildings in
+      let researches = items-stay place Researches in
+      let yard = items-stay place Yard in
+      omega (arith, less, after, before, buildings, researches, yard)
+
 -- So does each event, at its home.
 event-less : (setting : Setting) (u : State) (event : Event) → KeepsRules setting u → Owes (view setting.cells u (home event)) event → (cell : CellId)
     → waiting_at setting (effect setting event u) cell ≤ waiting_at setting u cell
 event-less setting u (item_due class item later) fine stands cell = item-less setting u class item later fine stands cell
-event-less setting u (lands fleet) fine stands cell = landing-less setting u fleet fine (flies-in setting.cells u (home (lands fleet)) fleet stands) cell
+event-less setting u (lands fleet) fine stands cell = landing-less setting u fleet fine (flies-in setting.cells u (home (lands fleet)) fleet stands.0) cell
+event-less setting u (fights raid) fine stands cell = battle-less setting u raid fine stands cell
 
 event-falls : (setting : Setting) (u : State) (event : Event) → KeepsRules setting u → Owes (view setting.cells u (home event)) event
     → waiting_at setting (effect setting event u) (home event) < waiting_at setting u (home event)
 event-falls setting u (item_due class item later) fine stands = item-falls setting u class item later fine stands class refl
 event-falls setting u (lands fleet) fine stands =
-    landing-falls setting u fleet fine (flies-in setting.cells u (home (lands fleet)) fleet stands) (home (lands fleet)) (landing-belongs fleet)
+    landing-falls setting u fleet fine (flies-in setting.cells u (home (lands fleet)) fleet stands.0) (home (lands fleet)) (landing-belongs fleet)
+event-falls setting u (fights raid) fine stands = battle-falls setting u raid fine stands
 
 unheld : (o : Option Stand) → is_some o ≡ false → seen_of o ≡ nothing_seen
 unheld None none = refl

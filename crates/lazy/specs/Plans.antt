@@ -17,7 +17,7 @@ use Rattle.lazy.specs.declared.planning.Plan.{Plan}
 use Rattle.reply_text.specs.declared.reply.Reply.{Reply}
 use Rattle.request_text.specs.declared.entry.Entry.{Entry}
 use Rattle.request_text.specs.declared.request.Request.{Request}
-use Rattle.request_text.specs.declared.request.Request.TheVariants.{Build, Research, Yard, Send}
+use Rattle.request_text.specs.declared.request.Request.TheVariants.{Build, Research, Yard, Send, Join}
 use Rattle.tick_model.specs.Game.{game}
 use Rattle.tick_model.specs.Step.{step}
 use Rattle.tick_model.specs.Universe.{Fleet, Setting}
@@ -39,6 +39,7 @@ last_fleet (fleet ∷ next ∷ later) = last_fleet (next ∷ later)
 -- the fleet that a request sends, if it is granted: the last of the caller's
 abbrev pub fleet_ordered : Request → List Fleet → Option Fleet
 fleet_ordered (Send from to mission setting ships cargo) fleets = last_fleet fleets
+fleet_ordered (Join group from to setting ships cargo) fleets = last_fleet fleets
 fleet_ordered _ fleets = None
 
 -- what is ordered is in this queue, or is this fleet, if there is either

@@ -27,7 +27,7 @@ pub fn advance(alloc: Global, rules: &Rules, cells: &Held, moment: u64) -> Resul
 {
     let mut copies = cells.copy(alloc)?;
     'events: while let Some(what) = copies.first_due(moment) {
-        apply(&mut copies, rules, what)?;
+        apply(alloc, &mut copies, rules, what)?;
         run_yards(alloc, &mut copies, rules, moment)?;
     }
     copies.gained(alloc, rules, moment)

@@ -128,7 +128,9 @@ fn ordered(player: Player, req: &Request, fleets: &Fleets) -> Option<Ordered>
         Request::Build(at, _) => Some(Ordered::Item(Queue::Buildings(*at))),
         Request::Research(_, _) => Some(Ordered::Item(Queue::Research(player))),
         Request::Yard(at, _, _) => Some(Ordered::Item(Queue::Yard(*at))),
-        Request::Send(_, _, _, _, _, _) => Some(Ordered::Fleet(last_fleet(fleets)?)),
+        Request::Send(_, _, _, _, _, _) | Request::Join(_, _, _, _, _, _) => {
+            Some(Ordered::Fleet(last_fleet(fleets)?))
+        }
         _ => None,
     }
 }

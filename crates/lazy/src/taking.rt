@@ -212,7 +212,8 @@ pub fn from_place(player: Player, fleets: &Fleets, req: &Request) -> Option<Coor
         | Request::Research(at, _)
         | Request::Yard(at, _, _)
         | Request::Set(at, _, _)
-        | Request::Send(at, _, _, _, _, _) => Some(*at),
+        | Request::Send(at, _, _, _, _, _)
+        | Request::Join(_, at, _, _, _, _) => Some(*at),
         Request::Recall(number) => Some(outbound(fleets, player, number.f)?.origin),
         _ => None,
     }
@@ -223,7 +224,9 @@ pub fn to_place(player: Player, fleets: &Fleets, req: &Request) -> Option<Coord>
     ensures { result ≡ to_place player fleets.now req.now }
 {
     match req {
-        Request::Send(from, to, _, _, _, _) => elsewhere(*from, *to),
+        Request::Send(from, to, _, _, _, _) | Request::Join(_, from, to, _, _, _) => {
+            elsewhere(*from, *to)
+        }
         Request::Recall(number) => {
             let fleet = outbound(fleets, player, number.f)?;
             elsewhere(fleet.origin, fleet.target)

@@ -8,13 +8,7 @@ use Rattle.base_ids.specs.Cells.{same_player}
 use Rattle.base_ids.specs.declared.cell_id.CellId.{CellId}
 use Rattle.base_ids.specs.declared.cell_id.CellId.TheVariants.{Account as AccountId, Planet as PlanetId}
 use Rattle.base_ids.specs.declared.coord.Coord.{Coord}
-use Rattle.base_ids.specs.declared.fleet_number.FleetNumber.{FleetNumber}
 use Rattle.base_ids.specs.declared.player.Player.{Player}
-use Rattle.base_ids.specs.declared.system.System.{System}
-use Rattle.catalog.specs.declared.amounts.Amounts.{Amounts}
-use Rattle.catalog.specs.declared.mission.Mission.{Mission}
-use Rattle.catalog.specs.declared.settings.SpeedSetting.{SpeedSetting}
-use Rattle.catalog.specs.declared.ships.Ships.{Ships}
 use Rattle.orders.proofs.Left.{fleets_stay}
 use Rattle.orders.specs.Acting.{AllBelong, AreKept, AreShown, Comes, IsLeftAs, IsSeenAs, account_seen, fleets_after, from_place, planet_seen, seen_after, to_place, units_after, units_ordered}
 use Rattle.orders.specs.Granting.{AreCounted, AreHeld, Follows, IsAtPlace, IsSeen, LeavesFleets, on_planet}
@@ -24,12 +18,12 @@ use Rattle.orders.specs.declared.parts.Parts.{Parts}
 use Rattle.planet_cell.specs.Planet.{batches_of, fields_of}
 use Rattle.planet_cell.specs.declared.planet.Planet.{Planet}
 use Rattle.request_text.specs.declared.request.Request.{Request}
-use Rattle.request_text.specs.declared.request.Request.TheVariants.{Planet as PlanetOf, Account as AccountOf, Fleets as FleetsOf, System as SystemOf, Build, Research, Yard as YardOf, Set, Send, Join, Recall}
+use Rattle.request_text.specs.declared.request.Request.TheVariants.{Planet as PlanetOf, Build, Research, Yard as YardOf, Set}
 use Rattle.tick_model.specs.Changes.{Change, no_change}
 use Rattle.tick_model.specs.Requests.{Answer, Outcome, Sight, builds, on_own, outcome, own_seen, refused, researches, sets, shows, yards}
 use Rattle.tick_model.specs.Universe.{Fleet, Own, of_account, of_nothing, of_planet}
 use Rattle.tick_model.specs.Views.{View, units_left}
-use Rattle.tick_model.specs.declared.codes.TheConstants.{NOT_BUILT, NOT_YOURS, NO_PLANET, NO_PLAYER}
+use Rattle.tick_model.specs.declared.codes.TheConstants.{NOT_YOURS, NO_PLANET, NO_PLAYER}
 use Rattle.tick_model.specs.declared.rules.Rules.{Rules}
 
 pub some_map : {A : Type 0} (found : Option A) (P Q : A → Type 0) → ((x : A) → P x → Q x) → IfSome found P → IfSome found Q
@@ -113,28 +107,6 @@ caller_fleets sight player rules moment req parts account shown here =
 pub nobody : (sight : Sight) (player : Player) (rules : Rules) (moment : ℕ) (req : Request) (parts : Parts) → AreShown sight player rules moment req parts → parts.caller ≡ None → own_seen sight (AccountId player) ≡ of_nothing
 nobody sight player rules moment req parts shown none = ap (λ (x : View). x.own) (shown.caller ∙ ap (λ (x : Option Account). account_seen x parts.fleets.caller) none)
 
--- the form isn't played
-pub not_played : (sight : Sight) (player : Player) (rules : Rules) (moment : ℕ) (req : Request) (parts : Parts) (acted : Acted) → AreShown sight player rules moment req parts
-    → outcome sight player req ≡ refused sight NOT_BUILT → acted.code ≡ NOT_BUILT → acted.body ≡ [] → Comes sight player req (outcome sight player req) parts parts acted
-not_played sight player rules moment req parts acted shown is code body = refused_comes sight player rules moment req parts acted NOT_BUILT shown is code (omega arith) body
-
--- a form that is none of these isn't
-pub not_built_is : (sight : Sight) (player : Player) (req : Request) → (IsAtPlace req → ⊥) → (req ≡ AccountOf → ⊥) → (req ≡ FleetsOf → ⊥) → ((system : System) → req ≡ SystemOf system → ⊥)
-    → ((number : FleetNumber) → req ≡ Recall number → ⊥)
-    → ((from to : Coord) (mission : Mission) (setting : SpeedSetting) (ships : Ships) (cargo : Amounts) → req ≡ Send from to mission setting ships cargo → ⊥)
-    → outcome sight player req ≡ refused sight NOT_BUILT
-not_built_is sight player (PlanetOf at) no_place account fleets system recall send = absurd (no_place tt)
-not_built_is sight player AccountOf no_place account fleets system recall send = absurd (account refl)
-not_built_is sight player FleetsOf no_place account fleets system recall send = absurd (fleets refl)
-not_built_is sight player (SystemOf s) no_place account fleets system recall send = absurd (system s refl)
-not_built_is sight player (Build at building) no_place account fleets system recall send = absurd (no_place tt)
-not_built_is sight player (Research at technology) no_place account fleets system recall send = absurd (no_place tt)
-not_built_is sight player (YardOf at unit count) no_place account fleets system recall send = absurd (no_place tt)
-not_built_is sight player (Set at work tenths) no_place account fleets system recall send = absurd (no_place tt)
-not_built_is sight player (Recall number) no_place account fleets system recall send = absurd (recall number refl)
-not_built_is sight player (Send from to mission setting ships cargo) no_place account fleets system recall send = absurd (send from to mission setting ships cargo refl)
-not_built_is sight player (Join fleet from to setting ships cargo) no_place account fleets system recall send = refl
-
 -- the place that such a request names
 named_at : (player : Player) (fleets : List Fleet) (req : Request) → IsAtPlace req → (at : Coord) × (from_place player fleets req ≡ Some at)
 named_at player fleets (PlanetOf at) place = (at, refl)
@@ -173,7 +145,7 @@ by_own sight player (Build at building) caller there = on_own sight player calle
 by_own sight player (Research at technology) caller there = on_own sight player caller there (researches sight player at technology.kind)
 by_own sight player (YardOf at unit count) caller there = on_own sight player caller there (yards sight player at unit.kind count.n)
 by_own sight player (Set at work tenths) caller there = on_own sight player caller there (sets sight at work.kind tenths.n)
-by_own sight player req caller there = refused sight NOT_BUILT
+by_own sight player req caller there = refused sight NO_PLANET
 
 by_own_is : (sight : Sight) (player : Player) (fleets : List Fleet) (req : Request) (at : Coord) (caller there : Own) → IsAtPlace req → from_place player fleets req ≡ Some at → own_seen sight (AccountId player) ≡ caller → own_seen sight (PlanetId at) ≡ there
     → outcome sight player req ≡ by_own sight player req caller there

@@ -1,5 +1,5 @@
 -- What the tests begin with.
-use Rattle.std.proofs.Common.{◌+◌, ◌≤◌, List, [], ◌∷◌, replicate, arith, slice_index}
+use Rattle.std.proofs.Common.{◌+◌, ◌≤◌, [], ◌∷◌, replicate, arith, slice_index}
 use Rattle.std.specs.Prelude.{Some, sum}
 use Rattle.account_cell.specs.Bounds.{AreWithinCaps as AreTechsWithinCaps}
 use Rattle.account_cell.specs.declared.account.Account.{Account}

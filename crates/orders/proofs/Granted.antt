@@ -1,6 +1,6 @@
 -- What comes of a request about the caller's own planet.
 use Rattle.std.proofs.Common.{◌≡◌, ℕ, ◌<◌, ◌+◌, false, List, [], ◌∷◌, map, refl, ap, sym, subst, ◌∙◌, arith}
-use Rattle.std.specs.Prelude.{Some, ◌==◌, if◌then◌else◌, slice_set, Result, Ok, Err, IfOk}
+use Rattle.std.specs.Prelude.{◌==◌, if◌then◌else◌, slice_set, Result, Ok, Err, IfOk}
 use Rattle.std.proofs.lemmas.Bool.Decides.{nat_tests}
 use Rattle.account_cell.specs.Account.{AreSame as AreSameAccount, KeepsHoldings, KeepsResearch, account_fields, research_item, research_of}
 use Rattle.account_cell.specs.Queue.{new_research, research_ordered, research_placed}

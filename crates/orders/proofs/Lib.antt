@@ -5,6 +5,7 @@ pub mod Granted
 pub mod Left
 pub mod Listing
 pub mod Paying
+pub mod Raided
 pub mod Recalled
 pub mod Sent
 pub mod Told

@@ -1,10 +1,6 @@
 -- Lines that are written one for each element of a list.
-use Rattle.std.proofs.Common.{◌≡◌, ℕ, ◌+◌, ◌<◌, ◌≤◌, Bool, true, false, cond, List, [], ◌∷◌, ◌++◌, map, length, get_or, drop, refl, ap, sym, ◌∙◌, append_assoc, arith, inl, inr}
-use Rattle.std.specs.Prelude.{IsTrue, nat_lt, sum, sum_by}
-use Rattle.std.specs.List.{list_any}
-use Rattle.std.proofs.lemmas.Bool.Decides.{nat_tests}
+use Rattle.std.proofs.Common.{◌≡◌, ℕ, ◌+◌, ◌<◌, Bool, true, false, cond, List, [], ◌∷◌, ◌++◌, map, length, get_or, drop, refl, ap, sym, ◌∙◌, append_assoc}
 use Rattle.std.proofs.lemmas.List.{drop_more}
-use Rattle.std.proofs.lemmas.List.Sums.{sum_by-cons}
 use Rattle.account_cell.specs.Account.{research_item}
 use Rattle.account_cell.specs.declared.research_item.ResearchItem.{ResearchItem}
 use Rattle.base_ids.specs.Cells.{same_player}
@@ -20,10 +16,8 @@ use Rattle.orders.specs.declared.parts.SystemPlanet.{SystemPlanet}
 use Rattle.reply_text.specs.AccountLines.{own_planet_line}
 use Rattle.reply_text.specs.FleetLines.{at_line, fleet_line}
 use Rattle.reply_text.specs.QueueLines.{waiting_building_line, waiting_research_line, yard_waiting_line}
-use Rattle.tick_model.proofs.Lists.{or-is}
 use Rattle.tick_model.specs.Lines.{fleet_lines, flight_of, own_fleets, own_planet_lines, waiting_lines}
 use Rattle.tick_model.specs.Universe.{Buildings, Fleet, Researches, Yard}
-use Rattle.tick_model.specs.Views.{ships_of}
 
 -- after one line more, the lines of the rest make the same text
 next_line : {X : Type 0} (line : X → List ℕ) (lines : List X → List ℕ) → ((x : X) (xs : List X) → lines (x ∷ xs) ≡ line x ++ lines xs)

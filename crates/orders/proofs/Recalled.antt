@@ -1,8 +1,7 @@
 -- What comes of a fleet that is called back.
-use Rattle.std.proofs.Common.{◌≡◌, ℕ, ◌<◌, ◌+◌, ◌++◌, Bool, true, false, List, [], refl, ap, sym, subst, ◌∙◌, arith}
-use Rattle.std.specs.Prelude.{IfSome, None, Option, Some, filter, filter_map, option_map, ◌==◌, if◌then◌else◌}
+use Rattle.std.proofs.Common.{◌≡◌, ℕ, ◌+◌, Bool, true, false, List, [], refl, ap, sym, subst, ◌∙◌, arith}
+use Rattle.std.specs.Prelude.{IfSome, None, Option, Some, if◌then◌else◌}
 use Rattle.std.proofs.lemmas.List.{append-nil}
-use Rattle.account_cell.specs.Account.{account_fields}
 use Rattle.account_cell.specs.declared.account.Account.{Account}
 use Rattle.base_ids.specs.Cells.{same_coord}
 use Rattle.base_ids.specs.declared.cell_id.CellId.{CellId}
@@ -10,10 +9,9 @@ use Rattle.base_ids.specs.declared.cell_id.CellId.TheVariants.{Account as Accoun
 use Rattle.base_ids.specs.declared.coord.Coord.{Coord}
 use Rattle.base_ids.specs.declared.fleet_number.FleetNumber.{FleetNumber}
 use Rattle.base_ids.specs.declared.player.Player.{Player}
-use Rattle.fleet_rec.specs.Fleets.{after_recall}
 use Rattle.orders.proofs.Answered.{caller_fleets, caller_is, caller_own, refused_comes, some_into, some_map}
 use Rattle.orders.proofs.Sent.{account_left, view_left}
-use Rattle.orders.specs.Acting.{AreShown, Comes, IsLeftAs, IsSeenAs, account_seen, elsewhere, fleets_after, from_place, origin_of, outbound, planet_seen, queue_after, seen_after, target_of, to_place}
+use Rattle.orders.specs.Acting.{AreShown, Comes, IsLeftAs, IsSeenAs, account_seen, elsewhere, fleets_after, origin_of, outbound, planet_seen, seen_after, target_of}
 use Rattle.orders.specs.Sending.{AreCalledBack, called_back_in}
 use Rattle.orders.specs.declared.parts.Acted.{Acted}
 use Rattle.orders.specs.declared.parts.Parts.{Parts}
@@ -24,8 +22,8 @@ use Rattle.tick_model.specs.Changes.{Change, new_fleet, owns}
 use Rattle.tick_model.specs.Flights.{recalled_at, turned}
 use Rattle.tick_model.specs.Requests.{Outcome, Sight, granted, on_account, outcome, own_seen, recalls, recalls_own, refused}
 use Rattle.tick_model.specs.Sending.{fleet_of}
-use Rattle.tick_model.specs.Universe.{Fleet, Own, QueueClass, of_account}
-use Rattle.tick_model.specs.Views.{View, belongs}
+use Rattle.tick_model.specs.Universe.{Fleet, Own, QueueClass}
+use Rattle.tick_model.specs.Views.{View}
 use Rattle.tick_model.specs.declared.codes.TheConstants.{NOT_OUTBOUND, NO_FLEET}
 use Rattle.tick_model.specs.declared.rules.Rules.{Rules}
 

@@ -1,24 +1,23 @@
 -- What comes of the requests that only show: an account, its fleets, and the planets of a system.
-use Rattle.std.proofs.Common.{◌≡◌, ℕ, ◌+◌, ◌++◌, ◌<◌, Bool, true, false, List, [], ◌∷◌, refl, ap, sym, subst, ◌∙◌, arith}
+use Rattle.std.proofs.Common.{◌≡◌, ℕ, ◌++◌, Bool, true, false, List, [], ◌∷◌, refl, ap, sym, subst, ◌∙◌, arith}
 use Rattle.std.specs.Prelude.{None, Option, Some, filter_map, if◌then◌else◌}
 use Rattle.std.specs.List.{cons_option}
 use Rattle.account_cell.specs.Account.{account_fields}
 use Rattle.account_cell.specs.declared.account.Account.{Account}
 use Rattle.base_ids.specs.declared.cell_id.CellId.{CellId}
 use Rattle.base_ids.specs.declared.cell_id.CellId.TheVariants.{Account as AccountId, Planet as PlanetId}
-use Rattle.base_ids.specs.declared.coord.Coord.{Coord}
 use Rattle.base_ids.specs.declared.player.Player.{Player}
 use Rattle.base_ids.specs.declared.system.System.{System}
 use Rattle.orders.proofs.Answered.{caller_fleets, caller_is, caller_own, nobody, refused_comes, unchanged_comes}
-use Rattle.orders.specs.Acting.{AreShown, Comes, account_seen, planet_shown, planets_in, system_text}
+use Rattle.orders.specs.Acting.{AreShown, Comes, account_seen, planet_shown, system_text}
 use Rattle.orders.specs.declared.parts.Acted.{Acted}
 use Rattle.orders.specs.declared.parts.Parts.{Parts}
 use Rattle.orders.specs.declared.parts.SystemPlanet.{SystemPlanet}
 use Rattle.request_text.specs.declared.request.Request.{Request}
 use Rattle.request_text.specs.declared.request.Request.TheVariants.{Account as AccountOf, Fleets as FleetsOf, System as SystemOf}
 use Rattle.tick_model.specs.Lines.{account_text, fleet_lines, own_fleets}
-use Rattle.tick_model.specs.Requests.{Outcome, Sight, at_line_of, in_system, on_account, outcome, own_seen, refused, system_lines, tells, tells_fleets, tells_system}
-use Rattle.tick_model.specs.Universe.{AccountFields, Fleet, Own, of_account, of_nothing, of_planet}
+use Rattle.tick_model.specs.Requests.{Outcome, Sight, at_line_of, in_system, on_account, outcome, own_seen, system_lines, tells, tells_fleets, tells_system}
+use Rattle.tick_model.specs.Universe.{AccountFields, Own, of_account, of_nothing, of_planet}
 use Rattle.tick_model.specs.Views.{View}
 use Rattle.tick_model.specs.declared.codes.TheConstants.{NO_PLAYER}
 use Rattle.tick_model.specs.declared.rules.Rules.{Rules}

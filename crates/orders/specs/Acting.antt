@@ -15,7 +15,7 @@ use Rattle.planet_cell.specs.Planet.{fields_of, queue_of}
 use Rattle.planet_cell.specs.declared.planet.Planet.{Planet}
 use Rattle.reply_text.specs.FleetLines.{at_line, fleet_line}
 use Rattle.request_text.specs.declared.request.Request.{Request}
-use Rattle.request_text.specs.declared.request.Request.TheVariants.{Planet as PlanetOf, System as SystemOf, Build, Research, Yard as YardOf, Set, Send, Recall}
+use Rattle.request_text.specs.declared.request.Request.TheVariants.{Planet as PlanetOf, System as SystemOf, Build, Research, Yard as YardOf, Set, Send, Join, Recall}
 use Rattle.tick_model.specs.Changes.{Change}
 use Rattle.tick_model.specs.Lines.{flight_of}
 use Rattle.tick_model.specs.Requests.{Outcome, Sight, in_system, outcome, own_seen, queue_seen}
@@ -62,12 +62,14 @@ from_place player fleets (Research at technology) = Some at
 from_place player fleets (YardOf at unit count) = Some at
 from_place player fleets (Set at work tenths) = Some at
 from_place player fleets (Send from to mission setting ships cargo) = Some from
+from_place player fleets (Join group from to setting ships cargo) = Some from
 from_place player fleets (Recall number) = origin_of (outbound (fleet_of player number.f fleets))
 from_place player fleets _ = None
 
 -- the place to which it sends a fleet, or the target of the fleet that it calls back, if that is another place
 abbrev pub to_place : Player → List Fleet → Request → Option Coord
 to_place player fleets (Send from to mission setting ships cargo) = elsewhere from to
+to_place player fleets (Join group from to setting ships cargo) = elsewhere from to
 to_place player fleets (Recall number) = target_of (outbound (fleet_of player number.f fleets))
 to_place player fleets _ = None
 

@@ -18,7 +18,7 @@ use Rattle.tick_model.specs.Requests.{Outcome, Sight, builds, refused, researche
 use Rattle.tick_model.specs.Researches.{pays_research}
 use Rattle.tick_model.specs.Universe.{AccountFields, Fleet, Item, PlanetFields}
 use Rattle.tick_model.specs.Views.{units_left}
-use Rattle.tick_model.specs.declared.codes.TheConstants.{NOT_BUILT}
+use Rattle.tick_model.specs.declared.codes.TheConstants.{NO_PLANET}
 use Rattle.tick_model.specs.declared.placed.Placed.{Placed}
 use Rattle.tick_model.specs.declared.placed.Placed.TheVariants.{Starts, Waits}
 use Rattle.tick_model.specs.declared.rules.Rules.{Rules}
@@ -78,7 +78,7 @@ on_planet (Build at building) account planet sight = builds sight planet.at buil
 on_planet (Research at technology) account planet sight = researches sight account.player planet.at technology.kind (account_fields account) (fields_of planet)
 on_planet (YardOf at unit count) account planet sight = yards sight account.player planet.at unit.kind count.n (account_fields account) (fields_of planet)
 on_planet (Set at work tenths) account planet sight = sets sight planet.at work.kind tenths.n (account_fields account) (fields_of planet)
-on_planet _ account planet sight = refused sight NOT_BUILT
+on_planet _ account planet sight = refused sight NO_PLANET
 
 -- An account and a planet show the same as before, whatever fleets belong to them.
 pub record AreHeld (old_account : Account) (old_planet : Planet) (account : Account) (planet : Planet) : Type 0 where

@@ -4,7 +4,7 @@ ghost use Rattle.orders.specs.Granting.{AreCounted, AreHeld, CountsUnits, Follow
 ghost use Rattle.orders.specs.Acting.{units_ordered};
 ghost use Rattle.ports.specs.declared.clock.TheConstants.{LATEST};
 
-use crate::errand::Errand;
+use crate::errand::{Errand, Purpose};
 use crate::ordering::{build, order_units, refused, research, set, show};
 use crate::parts::{Acted, Parts};
 use crate::recalling::recall;
@@ -14,12 +14,12 @@ use account_cell::Account;
 use planet_cell::Planet;
 use request_text::Request;
 use std::alloc::{AllocError, Global};
-use tick_model::{NO_PLANET, NO_PLAYER, NOT_BUILT, NOT_YOURS, Rules};
+use tick_model::{NO_PLANET, NO_PLAYER, NOT_YOURS, Rules};
 
 /// Acts on a request at a moment of at most 2^40 − 1, by the parts that it asks for, and changes them.
 ///
-/// A request of a form that isn't played is refused with `tick_model::NOT_BUILT`. A request that is refused changes nothing, and
-/// the number of an item or a fleet that it makes is 0. It fails only if memory runs out, and then changes nothing.
+/// A request that is refused changes nothing, and the number of an item or a fleet that it makes is 0. It fails only if memory
+/// runs out, and then changes nothing.
 pub fn act(
     alloc: Global,
     parts: &mut Parts,
@@ -45,14 +45,25 @@ pub fn act(
             let errand = Errand {
                 from: *from,
                 to: *to,
-                mission: *mission,
+                purpose: Purpose::Flies(*mission),
                 setting: *setting,
                 ships: *ships,
                 cargo: *cargo,
             };
             send(alloc, parts, rules, &errand, moment)
         }
-        _ => Ok(refused(alloc, NOT_BUILT)),
+        Request::Join(group, from, to, setting, ships, cargo) => {
+            let errand = Errand {
+                from: *from,
+                to: *to,
+                purpose: Purpose::Joins(*group),
+                setting: *setting,
+                ships: *ships,
+                cargo: *cargo,
+            };
+            send(alloc, parts, rules, &errand, moment)
+        }
+        _ => unreachable!(),
     }
 }
 

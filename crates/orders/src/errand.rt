@@ -1,22 +1,29 @@
 ghost use Rattle.std.specs.Prelude.{◌≡◌, ◌≤◌};
 ghost use Rattle.base_ids.specs.Cells.{same_coord};
-ghost use Rattle.tick_model.specs.Requests.{is_flown};
 ghost use Rattle.tick_model.specs.Sending.{suits};
 
+use crate::company::Company;
 use account_cell::Account;
-use base_ids::{Coord, Player};
+use base_ids::{Coord, FleetNumber, Player};
 use catalog::{Amounts, Mission, Ships, SpeedSetting};
 use fleet_rec::Fleet;
 use planet_cell::Planet;
 use rates::Resources;
 use tick_model::Rules;
 
-/// What a fleet is sent for: from where, to where, with which mission, at which speed setting, with which ships and which cargo.
+/// With which mission a fleet flies, if it joins nobody, or else the group that it joins, to attack with it.
+#[derive(Clone, Copy, Debug)]
+pub enum Purpose {
+    Flies(Mission),
+    Joins(FleetNumber),
+}
+
+/// What a fleet is sent for: from where, to where, for which purpose, at which speed setting, with which ships and which cargo.
 #[derive(Clone, Copy, Debug)]
 pub struct Errand {
     pub from: Coord,
     pub to: Coord,
-    pub mission: Mission,
+    pub purpose: Purpose,
     pub setting: SpeedSetting,
     pub ships: Ships,
     pub cargo: Amounts,
@@ -24,13 +31,6 @@ pub struct Errand {
 
 /// Where the recyclers stand among the ships.
 const RECYCLERS: usize = 10;
-
-/// Whether a mission is flown today.
-pub fn is_flown(mission: Mission) -> bool
-    ensures { result ≡ is_flown mission }
-{
-    matches!(mission, Mission::Transport | Mission::Deploy)
-}
 
 /// Whether a mission suits the owner of the target, and the ships that are sent.
 fn suits(mission: Mission, is_own: bool, ships: &Ships) -> bool
@@ -45,23 +45,34 @@ fn suits(mission: Mission, is_own: bool, ships: &Ships) -> bool
 }
 
 /// Whether both are the same place.
-fn is_same(one: Coord, other: Coord) -> bool
+pub fn is_same(one: Coord, other: Coord) -> bool
     ensures { result ≡ same_coord one other }
 {
     one.g == other.g && one.s == other.s && one.p == other.p
 }
 
 impl Errand {
-    ghost use Rattle.std.specs.Prelude.{◌≡◌, ◌+◌, ◌≤◌, ◌<◌, ◌^◌, nat_le};
+    ghost use Rattle.std.specs.Prelude.{◌≡◌, ℕ, ◌+◌, ◌≤◌, ◌<◌, ◌^◌, nat_le};
     ghost use Rattle.account_cell.specs.Account.{account_fields};
     ghost use Rattle.base_ids.specs.Cells.{same_coord};
     ghost use Rattle.fleet_rec.specs.Fleet.{fleet_seen};
     ghost use Rattle.flight.specs.Distances.{distance_of};
     ghost use Rattle.flight.specs.Freight.{capacity_of};
-    ghost use Rattle.orders.specs.Sending.{errand_seen, own_of};
+    ghost use Rattle.orders.specs.Sending.{arrival_alone, errand_seen, mission_of, own_of};
     ghost use Rattle.planet_cell.specs.Freight.{load_cost};
     ghost use Rattle.ports.specs.declared.clock.TheConstants.{LATEST};
-    ghost use Rattle.tick_model.specs.Sending.{can_go, fuel_of, launched, load_of, seconds_to};
+    ghost use Rattle.tick_model.specs.Sending.{can_go, fuel_of, launched, load_of, seconds_to, with_group};
+    ghost use Rattle.tick_model.specs.Universe.{AccountFields};
+
+    /// With which mission the fleet flies.
+    fn mission(&self) -> Mission
+        ensures { result ≡ mission_of self.now.purpose }
+    {
+        match self.purpose {
+            Purpose::Flies(mission) => mission,
+            Purpose::Joins(_) => Mission::Attack,
+        }
+    }
 
     /// How far it is.
     fn distance(&self) -> u32
@@ -118,29 +129,39 @@ impl Errand {
         match to {
             Some(planet) => {
                 !is_same(self.from, self.to)
-                    && suits(self.mission, planet.owner.k == player.k, &self.ships)
+                    && suits(self.mission(), planet.owner.k == player.k, &self.ships)
             }
             None => false,
         }
     }
 
-    /// The fleet that an account sends at a moment, to a planet of the owner: its number isn't drawn yet.
-    pub fn launched(&self, account: &Account, owner: Player, rules: &Rules, moment: u64) -> Fleet
+    /// When a fleet arrives that an account sends at a moment, if it joins nobody.
+    pub fn arrival(&self, account: &Account, rules: &Rules, moment: u64) -> u64
         requires { moment ≤ LATEST }
-        ensures { fleet_seen result ≡ launched rules.now.speed 0 moment account.now.player (account_fields account.now) owner (errand_seen self.now) }
+        ensures value { result ≡ arrival_alone rules.now.speed moment account.now self.now }
+        ensures in_time { result < 2 ^ 42 }
+    {
+        moment + self.seconds(account, rules)
+    }
+
+    /// The fleet that a player sends at a moment in this company, to a planet of the owner: its number isn't drawn yet.
+    pub fn launched(&self, player: Player, owner: Player, moment: u64, company: &Company) -> Fleet
+        requires { moment ≤ LATEST }
+        ensures { (speed : ℕ) (account : AccountFields)
+            → fleet_seen result ≡ with_group company.now.group company.now.second (launched speed 0 moment player account owner (errand_seen self.now)) }
     {
         Fleet {
             number: 0,
-            group: 0,
-            owner: account.player,
-            mission: self.mission,
+            group: company.group,
+            owner: player,
+            mission: self.mission(),
             origin: self.from,
             target: self.to,
             target_owner: owner,
             outbound: true,
             setting: self.setting,
             launch: moment,
-            second: moment + self.seconds(account, rules),
+            second: company.second,
             cargo: self.cargo,
             ships: self.ships,
         }

@@ -32,7 +32,7 @@ fn harbour(rt: &impl Abort, alloc: Global, units: u64) -> Planet
 
 /// Player 1 sends to the planet of player 2, and has so many units of each resource and two small cargos.
 #[tactic(auto, using(account_cell::proofs::Queues::caps_fresh))]
-fn parts(rt: &impl Abort, alloc: Global, units: u64) -> Result<Parts, Fail>
+pub fn parts(rt: &impl Abort, alloc: Global, units: u64) -> Result<Parts, Fail>
     requires { units ≤ CAP }
 {
     let account = account_with(alloc, 1, [0; 14], 2)?;

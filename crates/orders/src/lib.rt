@@ -2,7 +2,9 @@
 #![tactic(auto)]
 
 mod acting;
+mod company;
 mod errand;
+mod joining;
 mod links;
 mod ordering;
 mod parts;
@@ -19,5 +21,7 @@ pub use writing::{account_lines, own_fleet_lines, planet_lines};
 
 #[cfg(test)]
 mod fleet_tests;
+#[cfg(test)]
+mod join_tests;
 #[cfg(test)]
 mod tests;

@@ -1,14 +1,16 @@
 ghost use Rattle.std.specs.Prelude.{◌≡◌, ℕ, ◌<◌, ◌≤◌, IfOk, IsTrue, OnErr};
 ghost use Rattle.account_cell.specs.Account.{account_fields};
 ghost use Rattle.orders.specs.Acting.{Acts, AreKept};
-ghost use Rattle.orders.specs.Sending.{errand_seen, own_of, refusal_of, sends_for};
+ghost use Rattle.orders.specs.Sending.{company_seen, errand_seen, own_of, refusal_in, sends_for};
 ghost use Rattle.planet_cell.specs.Freight.{load_cost};
 ghost use Rattle.ports.specs.declared.clock.TheConstants.{LATEST};
 ghost use Rattle.reply_text.specs.OrderLines.{arrives_line};
 ghost use Rattle.tick_model.specs.Requests.{owner_there};
 ghost use Rattle.tick_model.specs.Sending.{load_of};
 
-use crate::errand::{Errand, is_flown};
+use crate::company::Company;
+use crate::errand::Errand;
+use crate::joining::company_of;
 use crate::links::joined;
 use crate::ordering::refused;
 use crate::parts::{Acted, Parts};
@@ -21,24 +23,33 @@ use planet_cell::Planet;
 use reply_text::push_arrives;
 use std::alloc::{AllocError, Global};
 use tick_model::{
-    BAD_MISSION, NO_PLANET, NO_PLAYER, NO_ROOM, NO_SHIPS, NO_SLOT, NOT_BUILT, NOT_YOURS, POOR,
-    Rules,
+    BAD_MISSION, GROUP_FULL, MOST_IN_GROUP, NO_FLEET, NO_PLANET, NO_PLAYER, NO_ROOM, NO_SHIPS,
+    NO_SLOT, NOT_YOURS, POOR, Rules, TOO_LATE,
 };
 
-/// Why a fleet can't be sent by an account with these fleets from its planet to another: the code of the first reason that there
-/// is, or 0 if there is none.
+/// Why a fleet can't leave in this company, by an account with these fleets, from its planet to another, if it would arrive at a
+/// second if it joined nobody: the code of the first reason that there is, or 0 if there is none.
 ///
-/// The reasons are, in this order: `tick_model::NO_SHIPS`, `BAD_MISSION`, `NO_SLOT`, `NO_ROOM` and `POOR`.
-#[tactic(auto, unfolding(tick_model::specs::Sending::send_refusal, tick_model::specs::Sending::has_room))]
-fn send_refusal(
+/// The reasons are, in this order: `tick_model::NO_FLEET`, `GROUP_FULL`, `NO_SHIPS`, `BAD_MISSION`, `NO_SLOT`, `TOO_LATE`, `NO_ROOM`
+/// and `POOR`.
+#[tactic(auto, unfolding(crate::specs::Sending::refusal_in, tick_model::specs::Sending::has_room))]
+fn refusal_in(
+    company: &Company,
+    second: u64,
     account: &Account,
     fleets: &Fleets,
     planet: &Planet,
     to: &Option<Planet>,
     errand: &Errand,
 ) -> u8
-    ensures { result ≡ refusal_of account.now fleets.now planet.now to.now errand.now }
+    ensures { result ≡ refusal_in (company_seen company.now) second account.now fleets.now planet.now to.now errand.now }
 {
+    if company.is_missing {
+        return NO_FLEET;
+    }
+    if company.others >= MOST_IN_GROUP {
+        return GROUP_FULL;
+    }
     let load = errand.load(account);
     if !planet.has_ships(&errand.ships) {
         return NO_SHIPS;
@@ -48,6 +59,9 @@ fn send_refusal(
     }
     if fleets.count_of(account.player) >= slots(account) as usize {
         return NO_SLOT;
+    }
+    if company.second < second {
+        return TOO_LATE;
     }
     if !errand.has_room(load) {
         return NO_ROOM;
@@ -77,7 +91,7 @@ fn arrival(alloc: Global, second: u64, fuel: u64) -> Result<Bytes, AllocError>
     Ok(body)
 }
 
-/// `send A B MISSION SETTING SHIPS CARGO`: a fleet leaves the caller's own planet.
+/// `send A B MISSION SETTING SHIPS CARGO` and `join GROUP A B SETTING SHIPS CARGO`: a fleet leaves the caller's own planet.
 ///
 /// It fails only if memory runs out, and the parts then stay as they were: the fleet joins copies of their fleets.
 pub fn send(
@@ -92,9 +106,6 @@ pub fn send(
     ensures refused { IfOk result (λ acted. 0 < acted.code → AreKept parts.old parts.new) }
     ensures err { OnErr result (AreKept parts.old parts.new) }
 {
-    if !is_flown(errand.mission) {
-        return Ok(refused(alloc, NOT_BUILT));
-    }
     let Some(account) = &parts.caller else {
         return Ok(refused(alloc, NO_PLAYER));
     };
@@ -104,22 +115,26 @@ pub fn send(
     if planet.owner.k != account.player.k {
         return Ok(refused(alloc, NOT_YOURS));
     }
-    let code = send_refusal(account, &parts.fleets.caller, planet, &parts.to, errand);
+    let (to, fleets) = (&parts.to, &parts.fleets);
+    let second = errand.arrival(account, rules, moment);
+    let company = company_of(errand, to, fleets, second);
+    let code = refusal_in(
+        &company,
+        second,
+        account,
+        &fleets.caller,
+        planet,
+        to,
+        errand,
+    );
     if code > 0 {
         return Ok(refused(alloc, code));
     }
-    let owner = owner_there(account.player, &parts.to);
-    let fleet = errand.launched(account, owner, rules, moment);
-    let body = arrival(alloc, fleet.second, errand.fuel(account))?;
-    let fleets = joined(
-        alloc,
-        account,
-        &parts.to_owner,
-        &parts.fleets,
-        errand,
-        fleet,
-    )?;
+    let owner = owner_there(account.player, to);
+    let fleet = errand.launched(account.player, owner, moment, &company);
+    let body = arrival(alloc, company.second, errand.fuel(account))?;
+    let linked = joined(alloc, account, &parts.to_owner, fleets, errand, fleet)?;
     planet.depart(errand.load(account), &errand.ships);
-    parts.fleets = fleets;
+    parts.fleets = linked;
     Ok(Acted { code: 0, body })
 }

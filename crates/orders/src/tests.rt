@@ -20,8 +20,8 @@ use std::alloc::{AllocError, Global};
 use std::process::Abort;
 use std::test::Fail;
 use tick_model::{
-    CEILING, Debris, LEVEL_CAP, NO_FIELDS, NO_PLANET, NO_PLAYER, NOT_BUILT, NOT_YOURS, POOR,
-    QUEUE_FULL, REQUIRES, Rules,
+    CEILING, Debris, LEVEL_CAP, NO_FIELDS, NO_PLANET, NO_PLAYER, NOT_YOURS, POOR, QUEUE_FULL,
+    REQUIRES, Rules,
 };
 
 const RULES: Rules = Rules { seed: 9, speed: 1 };
@@ -224,7 +224,7 @@ fn who_is_no_player_and_what_is_no_planet_is_told(rt: HostRuntime) -> Result<(),
         NO_PLANET,
     )?;
     let join = b"join 1 1:1:1 1:1:2 10 smallcargo=1 0 0 0";
-    refuses(&rt, alloc, &mut nowhere, join, NOT_BUILT)?;
+    refuses(&rt, alloc, &mut nowhere, join, NO_PLANET)?;
     Ok(())
 }
 

@@ -10,3 +10,4 @@ pub mod Starts
 pub mod Ticks
 pub mod Totals
 pub mod Yards
+pub mod Holds

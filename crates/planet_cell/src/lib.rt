@@ -3,6 +3,7 @@
 
 mod batch;
 mod batching;
+mod battling;
 mod building_item;
 mod departing;
 mod growing;
@@ -20,6 +21,7 @@ mod yard;
 mod yard_refusing;
 
 pub use batch::Batch;
+pub use battling::free_room;
 pub use building_item::BuildingItem;
 pub use growing::seconds_add_up;
 pub use places::{place_of, place_of_unit};

@@ -1,6 +1,7 @@
 -- An event keeps the rules, and lowers how many can still come.
 use Rattle.std.proofs.Common.{◌≡◌, ℕ, ◌+◌, ◌<◌, ◌≤◌, inl, inr, Bool, true, false, not, cond, eqb, ◌&&◌, List, [], ◌∷◌, ◌++◌, Option, None, Some, length, filter, if◌then◌else◌, arith, refl, ap, ◌∙◌, sym, subst}
 use Rattle.std.proofs.lemmas.List.Sums.{sum_by-append, sum_by-cons}
+use Rattle.std.specs.List.{list_any}
 use Rattle.base_ids.specs.Cells.{same_cell}
 use Rattle.base_ids.specs.declared.cell_id.CellId.{CellId}
 use Rattle.base_ids.specs.declared.cell_id.CellId.TheVariants.{Planet}
@@ -9,19 +10,24 @@ use Rattle.catalog.specs.declared.classes.TheConstants.{UNIT_KINDS}
 use Rattle.catalog.specs.declared.kind.Kind.{Kind}
 use Rattle.laziness.proofs.Bringing.{test, never}
 use Rattle.reply_text.specs.declared.units.Units.{Units}
-use Rattle.tick_model.specs.Changes.{owns}
-use Rattle.tick_model.specs.Events.{Event, item_due, lands, Owes, effect, home}
+use Rattle.tick_model.specs.Battles.{comes_back}
+use Rattle.tick_model.specs.Changes.{owns, same_flight}
+use Rattle.tick_model.specs.Events.{Event, item_due, lands, fights, Owes, effect, home}
 use Rattle.tick_model.specs.Flights.{back_at, landing, turned, turns}
 use Rattle.tick_model.specs.Game.{events_left, landings_left}
+use Rattle.tick_model.specs.Raids.{Raid, is_attack}
 use Rattle.tick_model.specs.Rules.{AreDistinct, IsBatch, IsFlying, IsIn, IsPlaced, KeepsRules, queue_cell, same_order}
 use Rattle.tick_model.specs.Universe.{QueueClass, Buildings, Researches, Yard, Fleet, Item, Setting, State, same_class}
 use Rattle.tick_model.specs.Views.{queue_in, stands_in, view}
+use Rattle.tick_model.proofs.Battles.{comes-back, fought-ships}
+use Rattle.tick_model.proofs.Battling.{after_battle, battle-is, battle-stays, becomes, becomes-flies, becomes-number, becomes-out, came_fought, sums-fall}
 use Rattle.tick_model.proofs.Effects.{StandsBy, after, came_queue, effect-is, event-ends, event-stays, other-queue, queue-after, seen_of}
 use Rattle.tick_model.proofs.Follows.{IsOrderOf, follows-distinct, follows-in, order-itself, same-order}
-use Rattle.tick_model.proofs.Landings.{after_landing, back-out, came_landed, flies-in, landing-is, landing-stays, sum-changed, turns-number, weight}
-use Rattle.tick_model.proofs.Lists.{and-is, apart-changed, cell-is, class-is, distinct-append, distinct-filter, distinct-one, fails, from-changed, from-filter, in-append, not-true}
+use Rattle.tick_model.proofs.Landings.{after_landing, back-out, came_landed, flies-in, landing-is, landing-stays, still-out, sum-changed, turns-number, weight}
+use Rattle.tick_model.proofs.Lists.{and-is, apart-changed, few-changed, cell-is, class-is, distinct-append, distinct-filter, distinct-one, fails, from-changed, from-filter, in-any, in-append, not-true, rise-changed, same_number, together-changed}
 use Rattle.tick_model.proofs.Queues.{queued}
-use Rattle.tick_model.proofs.Writes.{became_at}
+use Rattle.tick_model.proofs.Raids.{IsRaidIn, raid-in}
+use Rattle.tick_model.proofs.Writes.{became_at, became_in}
 use Rattle.tick_model.proofs.Staying.{flying-still, placed-still, stay-kinds, stay-listed, stay-owned}
 
 -- an order in place of another is in the queue of the right cell too
@@ -109,6 +115,9 @@ module _ (setting : Setting) (state : State) (class : QueueClass) (item : Item) 
         flying = λ fleet is. flying-still state new fleet stay (fine.flying fleet is);
         sent = fine.sent;
         apart = fine.apart;
+        rise = fine.rise;
+        together = fine.together;
+        few = fine.few;
       }
 
 -- a fleet that has turned back flies between the same planets
@@ -123,6 +132,7 @@ turned-flies state fleet second cargo flying = record {
   kinds = flying.kinds;
   later = λ out. absurd cc;
   deployed = flying.deployed;
+  grouped = flying.grouped;
 }
 
 became-flies : (state : State) (back : Option Units) (old new : Fleet) (b : Bool) → cond b (turns back old) (Some old) ≡ Some new → IsFlying state old → IsFlying state new
@@ -161,7 +171,44 @@ module _ (setting : Setting) (state : State) (fleet : Fleet) (fine : KeepsRules 
             omega (arith, number, low);
         apart = apart-changed (became_at fleet.number (turns back)) state.fleets
             (λ old flown is. became-number back old flown (eqb old.number fleet.number) is) fine.apart;
+        rise = rise-changed (became_at fleet.number (turns back)) state.fleets
+            (λ old flown is. became-number back old flown (eqb old.number fleet.number) is) fine.rise;
+        together = together-changed (became_at fleet.number (turns back)) state.fleets
+            (λ old flown is out. still-out fleet old flown back (eqb old.number fleet.number) is out) fine.together;
+        few = few-changed (became_at fleet.number (turns back)) state.fleets
+            (λ old flown is out. still-out fleet old flown back (eqb old.number fleet.number) is out) fine.few;
       }
+
+-- after a battle
+battle-keeps : (setting : Setting) (state : State) (raid : Raid) (fine : KeepsRules setting state) (is_in : IsRaidIn state raid) → KeepsRules setting (after_battle setting raid state is_in.planet)
+battle-keeps setting state raid fine is_in =
+    let new = after_battle setting raid state is_in.planet in
+    let left = (came_fought setting raid state is_in.planet).fleets in
+    let h = became_in raid.fleets (comes_back left) in
+    let stay = battle-stays setting state raid fine is_in in
+    let kinds = fought-ships setting.rules.seed (owns (seen_of setting (fights raid) state)) raid is_in.planet in
+    record {
+      listed = stay-listed setting new.own state stay fine;
+      once = fine.once;
+      owned = stay-owned setting new.own state stay fine;
+      kinds = stay-kinds setting new.own state stay fine;
+      placed = λ item is. placed-still state new item stay (fine.placed item is);
+      drawn = fine.drawn;
+      distinct = fine.distinct;
+      paced = fine.paced;
+      flying = λ flown is.
+          let found = from-changed h flown state.fleets is in
+          flying-still state new flown stay (becomes-flies state left raid found.0 flown kinds (becomes left raid found.0 flown found.2) (fine.flying found.0 found.1));
+      sent = λ flown is.
+          let found = from-changed h flown state.fleets is in
+          let number = becomes-number left raid found.0 flown (becomes left raid found.0 flown found.2) in
+          let low = fine.sent found.0 found.1 in
+          omega (arith, number, low);
+      apart = apart-changed h state.fleets (λ old flown is. becomes-number left raid old flown (becomes left raid old flown is)) fine.apart;
+      rise = rise-changed h state.fleets (λ old flown is. becomes-number left raid old flown (becomes left raid old flown is)) fine.rise;
+      together = together-changed h state.fleets (λ old flown is. becomes-out left raid old flown (becomes left raid old flown is)) fine.together;
+      few = few-changed h state.fleets (λ old flown is. becomes-out left raid old flown (becomes left raid old flown is)) fine.few;
+    }
 
 -- the rules are kept
 pub event-keeps : (setting : Setting) (state : State) (event : Event) → Owes (view setting.cells state (home event)) event → KeepsRules setting state
@@ -170,6 +217,9 @@ event-keeps setting state (item_due class item later) stands fine =
     subst (KeepsRules setting) (sym (effect-is setting class item later state)) (after-keeps setting state class item later fine stands)
 event-keeps setting state (lands fleet) stands fine =
     subst (KeepsRules setting) (sym (landing-is setting fleet state)) (landing-keeps setting state fleet fine)
+event-keeps setting state (fights raid) stands fine =
+    let is_in = raid-in setting state raid fine stands in
+    subst (KeepsRules setting) (sym (battle-is setting raid state is_in.planet is_in.there)) (battle-keeps setting state raid fine is_in)
 
 -- Events that can still come, of the items of a queue and of all others.
 
@@ -211,6 +261,40 @@ landings-fall setting state fleet fine flies =
     let less = fewer-landings fleet fleet.outbound refl came.back (back-out fleet (owns (seen_of setting (lands fleet) state) (Planet (landing fleet)))) in
     less-so _ (left_of fleet) _ (weight left_of (turns came.back fleet)) changed less
 
+-- a fleet that has fought lands once more, or not at all
+back-left : (left : List Fleet) (old : Fleet) (o : Option Fleet) → comes_back left old ≡ o → weight left_of o ≤ 1
+back-left left old None is = omega arith
+back-left left old (Some new) is =
+    let back = comes-back left old new is in
+    subst (λ f. left_of f ≤ 1) back.is (omega arith)
+
+becomes-left_at : (left : List Fleet) (old : Fleet) (b : Bool) → (b ≡ true → 1 ≤ left_of old) → weight left_of (cond b (comes_back left old) (Some old)) ≤ left_of old
+becomes-left_at left old true least =
+    let one = back-left left old (comes_back left old) refl in
+    let more = least refl in
+    omega (arith, one, more)
+becomes-left_at left old false least = omega arith
+
+left-least : (fleet : Fleet) (b : Bool) → fleet.outbound ≡ b → 1 ≤ left_of fleet
+left-least fleet true out = rw out (omega arith)
+left-least fleet false out = rw out (omega arith)
+
+left-out : (fleet : Fleet) → fleet.outbound ≡ true → left_of fleet ≡ 2
+left-out fleet out = ap (λ b. cond b 2 1) out
+
+battles-fall : (setting : Setting) (state : State) (raid : Raid) → (fine : KeepsRules setting state) → (is_in : IsRaidIn state raid)
+    → landings_left (after_battle setting raid state is_in.planet).fleets < landings_left state.fleets
+battles-fall setting state raid fine is_in =
+    let left = (came_fought setting raid state is_in.planet).fleets in
+    let one = is_in.each is_in.one is_in.has_one in
+    let out = left-out is_in.one (and-is is_in.one.outbound (is_attack is_in.one.mission) one.hostile).0 in
+    let named : list_any (same_flight is_in.one) raid.fleets ≡ true = in-any (same_flight is_in.one) is_in.one raid.fleets is_in.has_one (same_number is_in.one.number) in
+    let falls : weight left_of (became_in raid.fleets (comes_back left) is_in.one) ≤ 1 =
+    subst (λ b. weight left_of (cond b (comes_back left is_in.one) (Some is_in.one)) ≤ 1) (sym named) (back-left left is_in.one (comes_back left is_in.one) refl) in
+    sums-fall left_of (became_in raid.fleets (comes_back left)) is_in.one state.fleets
+    (λ fleet is. becomes-left_at left fleet (list_any (same_flight fleet) raid.fleets) (λ in_raid. left-least fleet fleet.outbound refl)) one.flies
+    (omega (arith, out, falls))
+
 -- fewer can come after it
 pub event-falls : (setting : Setting) (state : State) (event : Event) → KeepsRules setting state → Owes (view setting.cells state (home event)) event
     → events_left (effect setting event state).items + landings_left (effect setting event state).fleets < events_left state.items + landings_left state.fleets
@@ -229,5 +313,12 @@ event-falls setting state (lands fleet) fine stands =
     let items : events_left (effect setting (lands fleet) state).items ≡ events_left state.items = ap (λ new. events_left new.items) (landing-is setting fleet state) in
     let fleets : landings_left (effect setting (lands fleet) state).fleets ≡ landings_left (after_landing setting fleet state).fleets =
     ap (λ new. landings_left new.fleets) (landing-is setting fleet state) in
-    let less = landings-fall setting state fleet fine (flies-in setting.cells state (home (lands fleet)) fleet stands) in
+    let less = landings-fall setting state fleet fine (flies-in setting.cells state (home (lands fleet)) fleet stands.0) in
+    omega (arith, items, fleets, less)
+event-falls setting state (fights raid) fine stands =
+    let is_in = raid-in setting state raid fine stands in
+    let new = battle-is setting raid state is_in.planet is_in.there in
+    let items : events_left (effect setting (fights raid) state).items ≡ events_left state.items = ap (λ new. events_left new.items) new in
+    let fleets : landings_left (effect setting (fights raid) state).fleets ≡ landings_left (after_battle setting raid state is_in.planet).fleets = ap (λ new. landings_left new.fleets) new in
+    let less = battles-fall setting state raid fine is_in in
     omega (arith, items, fleets, less)

@@ -1,7 +1,7 @@
 -- The laws of gains, events and their order, for the game as it ticks: each is named as the field of laziness/specs/Laws,
 -- ModelLaws, that it gives for the model `game setting`.
 use Rattle.std.proofs.Common.{◌≡◌, ℕ, ◌+◌, ◌<◌, ◌≤◌, ◌⊎◌, inl, inr, Bool, true, false, nat_le, ◌&&◌, ◌||◌, cond, eqb, filter, arith, List, [], ◌∷◌, Option, None, Some, refl, ap, ◌∙◌, sym, subst}
-use Rattle.std.specs.List.{list_any}
+use Rattle.std.specs.List.{filter_map, list_any}
 use Rattle.base_ids.specs.Cells.{same_cell}
 use Rattle.base_ids.specs.declared.player.Player.{Player}
 use Rattle.base_ids.specs.Order.{key_before}
@@ -13,17 +13,21 @@ use Rattle.reply_text.specs.declared.units.Units.{Units}
 use Rattle.request_text.specs.declared.entry.Entry.{Entry}
 use Rattle.laziness.proofs.Bringing.{never, test}
 use Rattle.laziness.specs.Laws.{Agree, ComesFrom, IsClosed, IsNext, NoneDue, Stands}
-use Rattle.tick_model.specs.Events.{Event, item_due, lands, Owes, effect, footprint, home as home_of, is_payer, key_of, next_event, second_of}
+use Rattle.tick_model.specs.Events.{Event, IsRaid, item_due, lands, fights, Owes, effect, footprint, home as home_of, is_payer, key_of, next_event, second_of}
 use Rattle.tick_model.specs.Game.{brings, events_left, game, landings_left, own_brings, research_brings}
+use Rattle.tick_model.specs.Battles.{comes_back}
 use Rattle.tick_model.specs.Changes.{owns}
 use Rattle.tick_model.specs.Flights.{back_at, landing, turned, turns}
 use Rattle.tick_model.specs.Production.{advance, gains}
+use Rattle.tick_model.specs.Raids.{Raid, attacks, is_attack}
 use Rattle.tick_model.specs.Requests.{asked, is_listed, names}
 use Rattle.tick_model.specs.Sending.{belongs_out, fleet_of}
 use Rattle.tick_model.specs.Rules.{AreApart, IsFlying, IsIn, KeepsRules, queue_cell}
 use Rattle.tick_model.specs.Universe.{of_planet, QueueClass, Buildings, Researches, Yard, Fleet, Item, Setting, State, same_class}
 use Rattle.tick_model.specs.Views.{View, belongs, queue_in, view}
 use Rattle.tick_model.proofs.Asked.{asked-same}
+use Rattle.tick_model.proofs.Battles.{back-belongs, comes-back}
+use Rattle.tick_model.proofs.Battling.{Becomes, is_back, stays_so, after_battle, battle-home, battle-is, battle-stays, becomes, becomes-out, came_fought, raider-apart, raider-cells, raider-one}
 use Rattle.tick_model.proofs.Brought.{BringsBy, by_fleet, by_owner, by_research, brings-by, brings-fleet, brings-own, brings-research}
 use Rattle.tick_model.proofs.Effects.{after, effect-is, event-ends, event-stays, has-home, other-queue, queue-after, seen_of}
 use Rattle.tick_model.proofs.EventKeeps.{event-falls, event-keeps}
@@ -32,11 +36,12 @@ use Rattle.tick_model.proofs.Footprints.{event-depends, event-outside}
 use Rattle.tick_model.proofs.Follows.{Follows, follows-rest}
 use Rattle.tick_model.proofs.Gains.{advance-asked, advance-keeps, gains-bring, gains-owe, gains-owed, more-gained, none-gained, view-advanced}
 use Rattle.tick_model.proofs.Keys.{key-later, key-sooner}
-use Rattle.tick_model.proofs.Landings.{after_landing, back-out, came_landed, flies-in, landing-belongs, landing-is, landing-stays, turns-belongs}
+use Rattle.tick_model.proofs.Landings.{after_landing, back-out, came_landed, flies-in, landing-belongs, landing-is, landing-stays, still-out, turns-belongs}
 use Rattle.tick_model.proofs.Lists.{and-from, and-is, any-in, cell-from, cell-is, class-is, fails, fleet-one, from-changed, from-filter, in-any, in-filter, or-first, or-is, or-second}
 use Rattle.tick_model.proofs.Nexts.{found-next, found-none, le-is}
 use Rattle.tick_model.proofs.Owns.{brings-same, stays-owner}
-use Rattle.tick_model.proofs.Writes.{became_at}
+use Rattle.tick_model.proofs.Raids.{IsRaidIn, attacker-stays, raid-before, raid-in, target-belongs}
+use Rattle.tick_model.proofs.Writes.{became_at, became_in}
 use Rattle.tick_model.proofs.Queues.{one-event, queued}
 
 pub gains_none : (setting : Setting) (v : View) → gains setting.rules 0 v ≡ v
@@ -76,6 +81,7 @@ advance_asks setting k u a y asks = sym (advance-asked setting k u a y) ∙ asks
 key-second : (e : Event) → (key_of e).second ≡ second_of e
 key-second (item_due class item later) = refl
 key-second (lands fleet) = refl
+key-second (fights raid) = refl
 
 pub sooner_first : (setting : Setting) (e d : Event) → second_of e < second_of d → key_before (key_of e) (key_of d) ≡ true
 sooner_first setting e d earlier =
@@ -98,6 +104,7 @@ one setting u e d fine stands stands' after before =
 pub home : (setting : Setting) (e : Event) → footprint e (home_of e) ≡ true
 home setting (item_due class item later) = has-home class item later
 home setting (lands fleet) = landing-belongs fleet
+home setting (fights raid) = battle-home raid
 
 pub depends : (setting : Setting) (u v : State) (e : Event) → KeepsRules setting u → KeepsRules setting v → Stands (game setting) u e → Stands (game setting) v e
     → Agree (game setting) (footprint e) u v → Agree (game setting) (footprint e) (effect setting e u) (effect setting e v)
@@ -136,9 +143,9 @@ narrows class kind item later first rest x sort place follows has =
       | inr payer ↦ or-second (same_cell item.cell x) (is_payer class later x) (payers-of class kind rest later x sort (follows-rest item later first rest follows) payer)
     ]
 
--- a fleet that flies stands
-stands-landing : (setting : Setting) (u : State) (fleet : Fleet) → IsIn fleet u.fleets → Stands (game setting) u (lands fleet)
-stands-landing setting u fleet is = in-filter (belongs (home_of (lands fleet))) fleet u.fleets is (landing-belongs fleet)
+-- a fleet that flies stands, if it doesn't attack
+stands-landing : (setting : Setting) (u : State) (fleet : Fleet) → IsIn fleet u.fleets → attacks fleet ≡ false → Stands (game setting) u (lands fleet)
+stands-landing setting u fleet is alone = (in-filter (belongs (home_of (lands fleet))) fleet u.fleets is (landing-belongs fleet), alone)
 
 -- a fleet that turns back is back later
 back-later : (state : State) (fleet : Fleet) → IsFlying state fleet → fleet.outbound ≡ true → fleet.second < back_at fleet
@@ -153,23 +160,38 @@ landed-new setting u fleet new (Some cargo) fine flies only is =
     let later = back-later u fleet (fine.flying fleet flies) (only cargo refl) in
     inr (subst (λ (f : Fleet). fleet.second < f.second) same later, inl (λ x has. turns-belongs (Some cargo) x fleet new is has))
 
-arises_at : (setting : Setting) (u : State) (fleet old new : Fleet) (back : Option Units) (b : Bool) → eqb old.number fleet.number ≡ b → KeepsRules setting u → IsIn fleet u.fleets → IsIn old u.fleets
+arises_at : (setting : Setting) (u : State) (fleet old new : Fleet) (back : Option Units) (b : Bool) → eqb old.number fleet.number ≡ b → attacks new ≡ false → KeepsRules setting u → IsIn fleet u.fleets → IsIn old u.fleets
     → ((cargo : Units) → back ≡ Some cargo → fleet.outbound ≡ true) → cond b (turns back old) (Some old) ≡ Some new
     → Stands (game setting) u (lands new) ⊎ ((fleet.second < new.second) × ComesFrom (game setting) u (lands fleet) (lands new))
-arises_at setting u fleet old new back true number fine flies is only becomes =
+arises_at setting u fleet old new back true number alone fine flies is only becomes =
     let one = fleet-one u.fleets old fleet fine.apart is flies number in
     landed-new setting u fleet new back fine flies only (subst (λ f. turns back f ≡ Some new) one becomes)
-arises_at setting u fleet old new back false number fine flies is only becomes =
+arises_at setting u fleet old new back false number alone fine flies is only becomes =
     let same : old ≡ new = cc in
-    inl (stands-landing setting u new (subst (λ f. IsIn f u.fleets) same is))
+    inl (stands-landing setting u new (subst (λ f. IsIn f u.fleets) same is) alone)
 
-arises-landing : (setting : Setting) (u : State) (fleet new : Fleet) → KeepsRules setting u → IsIn fleet u.fleets → IsIn new (after_landing setting fleet u).fleets
+arises-landing : (setting : Setting) (u : State) (fleet new : Fleet) → KeepsRules setting u → IsIn fleet u.fleets → attacks new ≡ false → IsIn new (after_landing setting fleet u).fleets
     → Stands (game setting) u (lands new) ⊎ ((fleet.second < new.second) × ComesFrom (game setting) u (lands fleet) (lands new))
-arises-landing setting u fleet new fine flies is =
+arises-landing setting u fleet new fine flies alone is =
     let seen = seen_of setting (lands fleet) u in
     let back = (came_landed fleet seen).back in
     let found = from-changed (became_at fleet.number (turns back)) new u.fleets is in
-    arises_at setting u fleet found.0 new back (eqb found.0.number fleet.number) refl fine flies found.1 (back-out fleet (owns seen (Planet (landing fleet)))) found.2
+    arises_at setting u fleet found.0 new back (eqb found.0.number fleet.number) refl alone fine flies found.1 (back-out fleet (owns seen (Planet (landing fleet)))) found.2
+
+-- what flies after a battle flew before, or comes back from it
+arises-battle : (setting : Setting) (u : State) (raid : Raid) (old new : Fleet) → (fine : KeepsRules setting u) → (is_in : IsRaidIn u raid) → IsIn old u.fleets → attacks new ≡ false
+    → Becomes (came_fought setting raid u is_in.planet).fleets raid old new
+    → Stands (game setting) u (lands new) ⊎ ((raid.second < new.second) × ComesFrom (game setting) u (fights raid) (lands new))
+arises-battle setting u raid old new fine is_in flies alone (stays_so other same) = inl (stands-landing setting u new (subst (λ f. IsIn f u.fleets) same flies) alone)
+arises-battle setting u raid old new fine is_in flies alone (is_back in_raid is) =
+    let left = (came_fought setting raid u is_in.planet).fleets in
+    let back = comes-back left old new is in
+    let mine = raider-one setting u raid fine is_in old flies in_raid in
+    let raider = is_in.each old mine in
+    let later = back-later u old (fine.flying old flies) (and-is old.outbound (is_attack old.mission) raider.hostile).0 in
+    let second = raider.second in
+    let now : back_at old ≡ new.second = ap (λ (f : Fleet). f.second) back.is in
+    inr (omega (arith, later, second, now), inl (λ x has. raider-cells setting u raid fine is_in old x mine (back-belongs left x old new is has)))
 
 pub arises : (setting : Setting) (u : State) (e d : Event) → KeepsRules setting u → Stands (game setting) u e → footprint e (home_of d) ≡ true
     → Stands (game setting) (effect setting e u) d
@@ -187,10 +209,36 @@ arises setting u (item_due class item later) (item_due kind first rest) fine sta
           inr (ends.next first rest queue, inl (λ x. narrows class kind item later first rest x sort place (subst (Follows (item ∷ later)) queue ends.follows))))
     ]
 arises setting u (item_due class item later) (lands fleet) fine stands has owes =
-    inl (subst (λ s. IsIn fleet (view setting.cells s (Planet (landing fleet))).fleets) (effect-is setting class item later u) owes)
+    inl (subst (λ s. IsIn fleet (view setting.cells s (Planet (landing fleet))).fleets) (effect-is setting class item later u) owes.0, owes.1)
+arises setting u (item_due class item later) (fights raid) fine stands has owes =
+    inl (subst (λ s. IsRaid (view setting.cells s (Planet raid.target)).fleets raid) (effect-is setting class item later u) owes)
 arises setting u (lands fleet) (item_due class item later) fine stands has owes = inl (sym (ap (λ s. queue_in s.items item.cell class) (landing-is setting fleet u)) ∙ owes)
-arises setting u (lands fleet) (lands new) fine stands has owes = arises-landing setting u fleet new fine (flies-in setting.cells u (home_of (lands fleet)) fleet stands)
-    (flies-in setting.cells (after_landing setting fleet u) (home_of (lands new)) new (subst (λ s. IsIn new (view setting.cells s (home_of (lands new))).fleets) (landing-is setting fleet u) owes))
+arises setting u (lands fleet) (lands new) fine stands has owes = arises-landing setting u fleet new fine (flies-in setting.cells u (home_of (lands fleet)) fleet stands.0) owes.1
+    (flies-in setting.cells (after_landing setting fleet u) (home_of (lands new)) new (subst (λ s. IsIn new (view setting.cells s (home_of (lands new))).fleets) (landing-is setting fleet u) owes.0))
+arises setting u (lands fleet) (fights raid) fine stands has owes =
+    let flies = flies-in setting.cells u (home_of (lands fleet)) fleet stands.0 in
+    let back = (came_landed fleet (seen_of setting (lands fleet) u)).back in
+    inl (raid-before (became_at fleet.number (turns back)) u.fleets raid
+    (λ old new is out. still-out fleet old new back (eqb old.number fleet.number) is out)
+    (λ one flown one_in one_hostile other is hostile group. attacker-stays fleet (turns back) u.fleets other fine.apart flies stands.1 is hostile)
+    (subst (λ s. IsRaid (view setting.cells s (Planet raid.target)).fleets raid) (landing-is setting fleet u) owes))
+arises setting u (fights raid) (item_due class item later) fine stands has owes =
+    let is_in = raid-in setting u raid fine stands in
+    inl (sym (ap (λ s. queue_in s.items item.cell class) (battle-is setting raid u is_in.planet is_in.there)) ∙ owes)
+arises setting u (fights raid) (lands new) fine stands has owes =
+    let is_in = raid-in setting u raid fine stands in
+    let after = after_battle setting raid u is_in.planet in
+    let left = (came_fought setting raid u is_in.planet).fleets in
+    let flown = flies-in setting.cells after (home_of (lands new)) new (subst (λ s. IsIn new (view setting.cells s (home_of (lands new))).fleets) (battle-is setting raid u is_in.planet is_in.there) owes.0) in
+    let found = from-changed (became_in raid.fleets (comes_back left)) new u.fleets flown in
+    arises-battle setting u raid found.0 new fine is_in found.1 owes.1 (becomes left raid found.0 new found.2)
+arises setting u (fights raid) (fights other) fine stands has owes =
+    let is_in = raid-in setting u raid fine stands in
+    let left = (came_fought setting raid u is_in.planet).fleets in
+    inl (raid-before (became_in raid.fleets (comes_back left)) u.fleets other
+    (λ old new is out. becomes-out left raid old new (becomes left raid old new is) out)
+    (λ one flown one_in one_hostile x is hostile group. raider-apart setting u raid fine is_in left one flown one_in one_hostile x is group)
+    (subst (λ s. IsRaid (view setting.cells s (Planet other.target)).fleets other) (battle-is setting raid u is_in.planet is_in.there) owes))
 
 -- a planet that is to pay research brings the account
 payer-brings : (setting : Setting) (u : State) (t : ℕ) (item paid : Item) (later : List Item) (x : CellId) → KeepsRules setting u → queue_in u.items item.cell Researches ≡ item ∷ later
@@ -224,6 +272,14 @@ payer-inside setting S t u Researches item later closed stands due y payer insid
 payer-inside setting S t u Buildings item later closed stands due y payer inside = never false payer refl
 payer-inside setting S t u Yard item later closed stands due y payer inside = never false payer refl
 
+-- a closed set that has a cell of a fleet that is due has all of them
+cells-inside : (setting : Setting) (S : CellId → Bool) (t : ℕ) (u : State) (fleet : Fleet) → IsClosed (game setting) (view setting.cells u) t S → IsIn fleet u.fleets → fleet.second ≤ t
+    → (x y : CellId) → belongs x fleet ≡ true → belongs y fleet ≡ true → S x ≡ true → S y ≡ true
+cells-inside setting S t u fleet closed flies due x y has_x has_y inside =
+    let there = in-filter (belongs x) fleet u.fleets flies has_x in
+    let brought = in-any (λ (f : Fleet). nat_le f.second t && belongs y f) fleet (filter (belongs x) u.fleets) there (and-from (nat_le fleet.second t) (belongs y fleet) (le-is fleet.second t due) has_y) in
+    closed x inside y (brings-fleet (view setting.cells u x) t y brought)
+
 pub closure : (setting : Setting) (S : CellId → Bool) (t : ℕ) (u : State) → KeepsRules setting u → IsClosed (game setting) (view setting.cells u) t S
     → (e : Event) → Stands (game setting) u e → second_of e ≤ t → (x y : CellId) → footprint e x ≡ true → footprint e y ≡ true → S x ≡ true → S y ≡ true
 closure setting S t u fine closed (item_due class item later) stands due x y has_x has_y inside =
@@ -236,10 +292,26 @@ closure setting S t u fine closed (item_due class item later) stands due x y has
       | inr payer ↦ payer-inside setting S t u class item later closed stands due y payer home
     ]
 closure setting S t u fine closed (lands fleet) stands due x y has_x has_y inside =
-    let flies = flies-in setting.cells u (home_of (lands fleet)) fleet stands in
-    let there = in-filter (belongs x) fleet u.fleets flies has_x in
-    let brought = in-any (λ (f : Fleet). nat_le f.second t && belongs y f) fleet (filter (belongs x) u.fleets) there (and-from (nat_le fleet.second t) (belongs y fleet) (le-is fleet.second t due) has_y) in
-    closed x inside y (brings-fleet (view setting.cells u x) t y brought)
+    let flies = flies-in setting.cells u (home_of (lands fleet)) fleet stands.0 in
+    cells-inside setting S t u fleet closed flies due x y has_x has_y inside
+closure setting S t u fine closed (fights raid) stands due x y has_x has_y inside =
+    let is_in = raid-in setting u raid fine stands in
+    let place = Planet raid.target in
+    let by : (fleet : Fleet) → IsIn fleet raid.fleets → fleet.second ≤ t = λ fleet is. let same = (is_in.each fleet is).second in omega (arith, same, due) in
+    let at_place : (fleet : Fleet) → IsIn fleet raid.fleets → belongs place fleet ≡ true =
+    λ fleet is. let raider = is_in.each fleet is in target-belongs raid.target fleet (and-is fleet.outbound (is_attack fleet.mission) raider.hostile).0 raider.target in
+    let home : S place ≡ true = elim (or-is (same_cell place x) (list_any (belongs x) raid.fleets) has_x) [
+      | inl here ↦ subst (λ z. S z ≡ true) (sym (cell-is place x here)) inside
+      | inr some ↦
+          (let found = any-in (belongs x) raid.fleets some in
+          cells-inside setting S t u found.0 closed (is_in.each found.0 found.1).flies (by found.0 found.1) x place found.2 (at_place found.0 found.1) inside)
+    ] in
+    elim (or-is (same_cell place y) (list_any (belongs y) raid.fleets) has_y) [
+      | inl here ↦ subst (λ z. S z ≡ true) (cell-is place y here) home
+      | inr some ↦
+          (let found = any-in (belongs y) raid.fleets some in
+          cells-inside setting S t u found.0 closed (is_in.each found.0 found.1).flies (by found.0 found.1) place y (at_place found.0 found.1) found.2 home)
+    ]
 
 -- of what the research queue brings that an event leaves it needs all
 still-brings : (t : ℕ) (class : QueueClass) (item : Item) (later queue : List Item) (y : CellId) → class ≡ Researches → Follows (item ∷ later) queue → research_brings t queue y ≡ true
@@ -301,6 +373,28 @@ widens-landing setting u fleet t x y fine flies (by_fleet brought) =
           inl (brings-fleet (view setting.cells u x) t y (in-any (λ (f : Fleet). nat_le f.second t && belongs y f) new (filter (belongs x) u.fleets) seen found.2)))
     ]
 
+widens-battle : (setting : Setting) (u : State) (raid : Raid) (t : ℕ) (x y : CellId) → (fine : KeepsRules setting u) → (is_in : IsRaidIn u raid)
+    → BringsBy (view setting.cells (after_battle setting raid u is_in.planet) x) t y → (brings (view setting.cells u x) t y ≡ true) ⊎ (footprint (fights raid) y ≡ true)
+widens-battle setting u raid t x y fine is_in (by_owner own) =
+    let new = after_battle setting raid u is_in.planet in
+    let owner = brings-same (new.own x) (u.own x) (stays-owner (u.own x) (new.own x) (battle-stays setting u raid fine is_in x)) y in
+    inl (brings-own (view setting.cells u x) t y (sym owner ∙ own))
+widens-battle setting u raid t x y fine is_in (by_research research) = inl (brings-research (view setting.cells u x) t y research)
+widens-battle setting u raid t x y fine is_in (by_fleet brought) =
+    let left = (came_fought setting raid u is_in.planet).fleets in
+    let h = became_in raid.fleets (comes_back left) in
+    let found = any-in (λ (f : Fleet). nat_le f.second t && belongs y f) (filter (belongs x) (filter_map h u.fleets)) brought in
+    let both = and-is (nat_le found.0.second t) (belongs y found.0) found.2 in
+    let there = from-filter (belongs x) found.0 (filter_map h u.fleets) found.1 in
+    let old = from-changed h found.0 u.fleets there.0 in
+    elim (becomes left raid old.0 found.0 old.2) [
+      | is_back in_raid is ↦ inr (raider-cells setting u raid fine is_in old.0 y (raider-one setting u raid fine is_in old.0 old.1 in_raid) (back-belongs left y old.0 found.0 is both.1))
+      | stays_so other same ↦
+          (let is : IsIn found.0 u.fleets = subst (λ f. IsIn f u.fleets) same old.1 in
+          let seen = in-filter (belongs x) found.0 u.fleets is there.1 in
+          inl (brings-fleet (view setting.cells u x) t y (in-any (λ (f : Fleet). nat_le f.second t && belongs y f) found.0 (filter (belongs x) u.fleets) seen found.2)))
+    ]
+
 pub widens : (setting : Setting) (u : State) (e : Event) (t : ℕ) (x y : CellId) → KeepsRules setting u → Stands (game setting) u e → footprint e x ≡ true
     → brings (view setting.cells (effect setting e u) x) t y ≡ true → (brings (view setting.cells u x) t y ≡ true) ⊎ (footprint e y ≡ true)
 widens setting u (item_due class item later) t x y fine stands has brought =
@@ -308,30 +402,25 @@ widens setting u (item_due class item later) t x y fine stands has brought =
     widens-item setting u class item later t x y fine stands (brings-by (view setting.cells (after setting class item later u) x) t y now)
 widens setting u (lands fleet) t x y fine stands has brought =
     let now = sym (ap (λ s. brings (view setting.cells s x) t y) (landing-is setting fleet u)) ∙ brought in
-    widens-landing setting u fleet t x y fine (flies-in setting.cells u (home_of (lands fleet)) fleet stands) (brings-by (view setting.cells (after_landing setting fleet u) x) t y now)
+    widens-landing setting u fleet t x y fine (flies-in setting.cells u (home_of (lands fleet)) fleet stands.0) (brings-by (view setting.cells (after_landing setting fleet u) x) t y now)
+widens setting u (fights raid) t x y fine stands has brought =
+    let is_in = raid-in setting u raid fine stands in
+    let now = sym (ap (λ s. brings (view setting.cells s x) t y) (battle-is setting raid u is_in.planet is_in.there)) ∙ brought in
+    widens-battle setting u raid t x y fine is_in (brings-by (view setting.cells (after_battle setting raid u is_in.planet) x) t y now)
 
 -- Which cells a request asks for after a fleet has landed.
 
--- a fleet that flies out then flew out before
-still-out : (fleet old new : Fleet) (back : Option Units) (b : Bool) → cond b (turns back old) (Some old) ≡ Some new → new.outbound ≡ true → old ≡ new
-still-out fleet old new None true is out = absurd cc
-still-out fleet old new (Some cargo) true is out =
-    let same : turned old (back_at old) cargo ≡ new = cc in
-    never (turned old (back_at old) cargo).outbound (ap (λ (f : Fleet). f.outbound) same ∙ out) refl
-still-out fleet old new back false is out = cc
-
-outs-after : (setting : Setting) (u : State) (fleet : Fleet) (player : Player) (number : ℕ) (y : CellId) → KeepsRules setting u
-    → belongs_out y (fleet_of player number (view setting.cells (after_landing setting fleet u) (Account player)).fleets) ≡ true
-    → belongs_out y (fleet_of player number (view setting.cells u (Account player)).fleets) ≡ true
-outs-after setting u fleet player number y fine out =
+outs-after : (cells : List CellId) (u v : State) (h : Fleet → Option Fleet) (player : Player) (number : ℕ) (y : CellId) → AreApart u.fleets → v.fleets ≡ filter_map h u.fleets
+    → ((old new : Fleet) → h old ≡ Some new → new.outbound ≡ true → old ≡ new)
+    → belongs_out y (fleet_of player number (view cells v (Account player)).fleets) ≡ true
+    → belongs_out y (fleet_of player number (view cells u (Account player)).fleets) ≡ true
+outs-after cells u v h player number y apart changed still out =
     let mine = belongs (Account player) in
-    let after_fleets = (after_landing setting fleet u).fleets in
-    let back = (came_landed fleet (seen_of setting (lands fleet) u)).back in
-    let flies = flies-out player number y (filter mine after_fleets) out in
-    let there = from-filter mine flies.fleet after_fleets flies.is_theirs.within in
-    let old = from-changed (became_at fleet.number (turns back)) flies.fleet u.fleets there.0 in
-    let same = still-out fleet old.0 flies.fleet back (eqb old.0.number fleet.number) old.2 flies.out in
-    out-flies player number y (filter mine u.fleets) (apart-filter mine u.fleets fine.apart) (record {
+    let flies = flies-out player number y (filter mine v.fleets) out in
+    let there = from-filter mine flies.fleet v.fleets flies.is_theirs.within in
+    let old = from-changed h flies.fleet u.fleets (subst (IsIn flies.fleet) changed there.0) in
+    let same = still old.0 flies.fleet old.2 flies.out in
+    out-flies player number y (filter mine u.fleets) (apart-filter mine u.fleets apart) (record {
       fleet = flies.fleet;
       is_theirs = record {
         within = in-filter mine flies.fleet u.fleets (subst (λ f. IsIn f u.fleets) same old.1) there.1;
@@ -367,8 +456,20 @@ asks_after setting u (item_due class item later) a y fine stands asks =
     let fleets = ap (λ s. (view setting.cells s (Account a.player)).fleets) (effect-is setting class item later u) in
     inl (asked-same setting.cells (view setting.cells u) (view setting.cells (effect setting (item_due class item later) u)) a.player a.req y (sym fleets) ∙ asks)
 asks_after setting u (lands fleet) a y fine stands asks =
+    let new = after_landing setting fleet u in
+    let back = (came_landed fleet (seen_of setting (lands fleet) u)).back in
     let now = ap (λ s. asked setting.cells (view setting.cells s) a.player a.req y) (sym (landing-is setting fleet u)) ∙ asks in
-    inl (asks-less setting.cells (view setting.cells (after_landing setting fleet u)) (view setting.cells u) a.player a.req y (λ number out. outs-after setting u fleet a.player number y fine out) now)
+    inl (asks-less setting.cells (view setting.cells new) (view setting.cells u) a.player a.req y
+    (λ number out. outs-after setting.cells u new (became_at fleet.number (turns back)) a.player number y fine.apart refl
+    (λ old flown is flies. still-out fleet old flown back (eqb old.number fleet.number) is flies) out) now)
+asks_after setting u (fights raid) a y fine stands asks =
+    let is_in = raid-in setting u raid fine stands in
+    let new = after_battle setting raid u is_in.planet in
+    let left = (came_fought setting raid u is_in.planet).fleets in
+    let now = ap (λ s. asked setting.cells (view setting.cells s) a.player a.req y) (sym (battle-is setting raid u is_in.planet is_in.there)) ∙ asks in
+    inl (asks-less setting.cells (view setting.cells new) (view setting.cells u) a.player a.req y
+    (λ number out. outs-after setting.cells u new (became_in raid.fleets (comes_back left)) a.player number y fine.apart refl
+    (λ old flown is flies. becomes-out left raid old flown (becomes left raid old flown is) flies) out) now)
 
 pub effect_count : (setting : Setting) (u : State) (e : Event) → (effect setting e u).number ≡ u.number
 effect_count setting u e = refl

@@ -2,10 +2,12 @@
 use Rattle.std.proofs.Common.{◌≡◌, true, false, ap, ◌∙◌, sym, subst}
 use Rattle.base_ids.specs.declared.cell_id.CellId.{CellId}
 use Rattle.tick_model.specs.Changes.{write}
-use Rattle.tick_model.specs.Events.{Event, item_due, lands, Owes, effect, event_change, footprint, home}
+use Rattle.tick_model.specs.Events.{Event, item_due, lands, fights, Owes, effect, event_change, footprint, home}
 use Rattle.tick_model.specs.Rules.{KeepsRules}
 use Rattle.tick_model.specs.Universe.{Setting, State}
 use Rattle.tick_model.specs.Views.{view}
+use Rattle.tick_model.proofs.Battling.{battle-within}
+use Rattle.tick_model.proofs.Raids.{raid-in}
 use Rattle.tick_model.proofs.Effects.{event-within, seen_of}
 use Rattle.tick_model.proofs.Landings.{flies-in, landing-within}
 use Rattle.tick_model.proofs.Writes.{IsWithin, inside, outside, shown-alike}
@@ -14,7 +16,8 @@ use Rattle.tick_model.proofs.Writes.{IsWithin, inside, outside, shown-alike}
 pub stays-within : (setting : Setting) (state : State) (event : Event) → KeepsRules setting state → Owes (view setting.cells state (home event)) event
     → IsWithin (footprint event) (footprint event) (event_change setting.rules event (seen_of setting event state)) state
 stays-within setting state (item_due class item later) fine stands = event-within setting state class item later fine stands
-stays-within setting state (lands fleet) fine stands = landing-within setting state fleet fine (flies-in setting.cells state (home (lands fleet)) fleet stands)
+stays-within setting state (lands fleet) fine stands = landing-within setting state fleet fine (flies-in setting.cells state (home (lands fleet)) fleet stands.0)
+stays-within setting state (fights raid) fine stands = battle-within setting state raid fine (raid-in setting state raid fine stands)
 
 -- a cell that the event doesn't need is seen as before
 pub event-outside : (setting : Setting) (state : State) (event : Event) (x : CellId) → KeepsRules setting state → Owes (view setting.cells state (home event)) event → footprint event x ≡ false

@@ -4,7 +4,7 @@ use Rattle.std.proofs.Math.Path.{fun_ext}
 use Rattle.base_ids.specs.declared.cell_id.CellId.{CellId}
 use Rattle.rates.specs.Times.{times}
 use Rattle.request_text.specs.declared.entry.Entry.{Entry}
-use Rattle.tick_model.specs.Events.{Event, item_due, lands, Owes}
+use Rattle.tick_model.specs.Events.{Event, item_due, lands, fights, IsRaid, Owes}
 use Rattle.tick_model.specs.Game.{brings, fleets_bring, research_brings}
 use Rattle.tick_model.specs.Production.{advance, cell_second, gains, own_second, planet_second}
 use Rattle.tick_model.specs.Requests.{asked}
@@ -58,11 +58,13 @@ more-gained rules m (suc n) v =
 -- a cell owes after gains just what it owed before
 pub gains-owe : (rules : Rules) (n : ℕ) (v : View) (e : Event) → Owes v e → Owes (gains rules n v) e
 gains-owe rules n v (item_due class item later) owes = ap (λ queue. queue class) (gained rules n v).queue ∙ owes
-gains-owe rules n v (lands fleet) owes = subst (IsIn fleet) (sym (gained rules n v).fleets) owes
+gains-owe rules n v (lands fleet) owes = (subst (IsIn fleet) (sym (gained rules n v).fleets) owes.0, owes.1)
+gains-owe rules n v (fights raid) owes = subst (λ fleets. IsRaid fleets raid) (sym (gained rules n v).fleets) owes
 
 pub gains-owed : (rules : Rules) (n : ℕ) (v : View) (e : Event) → Owes (gains rules n v) e → Owes v e
 gains-owed rules n v (item_due class item later) owes = ap (λ queue. queue class) (sym (gained rules n v).queue) ∙ owes
-gains-owed rules n v (lands fleet) owes = subst (IsIn fleet) (gained rules n v).fleets owes
+gains-owed rules n v (lands fleet) owes = (subst (IsIn fleet) (gained rules n v).fleets owes.0, owes.1)
+gains-owed rules n v (fights raid) owes = subst (λ fleets. IsRaid fleets raid) (gained rules n v).fleets owes
 
 pub gains-bring : (rules : Rules) (n t : ℕ) (v : View) (y : CellId) → brings (gains rules n v) t y ≡ true → brings v t y ≡ true
 gains-bring rules n t v y brought =

@@ -12,7 +12,7 @@ use Rattle.laziness.proofs.Bringing.{test, never}
 use Rattle.reply_text.specs.declared.units.Units.{Units}
 use Rattle.tick_model.specs.Changes.{owns, put_own}
 use Rattle.tick_model.specs.Events.{lands, effect, event_change, footprint}
-use Rattle.tick_model.specs.Flights.{Landed, arrived, back_at, joined_by, landed, landing, moored, supplied, turned, turns}
+use Rattle.tick_model.specs.Flights.{Landed, arrived, back_at, harvested, joined_by, landed, landing, moored, supplied, turned, turns}
 use Rattle.tick_model.specs.Rules.{AreApart, IsFlying, IsIn, KeepsRules, same_flight}
 use Rattle.tick_model.specs.Universe.{Own, of_nothing, of_account, of_planet, PlanetFields, Yard, Fleet, Setting, State}
 use Rattle.tick_model.specs.Views.{View, belongs, holding, holding_at, queue_in, view}
@@ -91,6 +91,14 @@ pub turns-number : (back : Option Units) (old new : Fleet) → turns back old �
 turns-number None old new is = absurd cc
 turns-number (Some cargo) old new is = let same : turned old (back_at old) cargo ≡ new = cc in ap (λ (f : Fleet). f.number) (sym same)
 
+-- a fleet that flies out then flew out before
+pub still-out : (fleet old new : Fleet) (back : Option Units) (b : Bool) → cond b (turns back old) (Some old) ≡ Some new → new.outbound ≡ true → old ≡ new
+still-out fleet old new None true is out = absurd cc
+still-out fleet old new (Some cargo) true is out =
+    let same : turned old (back_at old) cargo ≡ new = cc in
+    never (turned old (back_at old) cargo).outbound (ap (λ (f : Fleet). f.outbound) same ∙ out) refl
+still-out fleet old new back false is out = cc
+
 -- What cells have of their own stays.
 
 pub joined-kinds : (counts ships : List ℕ) → length (joined_by counts ships) ≡ length counts
@@ -106,10 +114,14 @@ supplied-stays : (planet : PlanetFields) (fleet : Fleet) → Stays (of_planet pl
 unfolding supplied
 supplied-stays planet fleet = (refl, refl)
 
+harvested-stays : (planet : PlanetFields) (fleet : Fleet) → Stays (of_planet planet) (of_planet (harvested planet fleet))
+unfolding harvested
+harvested-stays planet fleet = (refl, refl)
+
 arrived-stays : (mission : Mission) (fleet : Fleet) (planet : PlanetFields) → Stays (of_planet planet) (arrived mission fleet planet).own
 arrived-stays Transport fleet planet = supplied-stays planet fleet
 arrived-stays Deploy fleet planet = moored-stays planet fleet
-arrived-stays Harvest fleet planet = (refl, refl)
+arrived-stays Harvest fleet planet = harvested-stays planet fleet
 arrived-stays Attack fleet planet = (refl, refl)
 
 landed_at : (fleet : Fleet) (planet : PlanetFields) (b : Bool)

@@ -14,9 +14,15 @@ pub mod Ends
 pub mod Counted
 pub mod Effects
 pub mod Landings
+pub mod Battles
+pub mod Losses
+pub mod Raids
+pub mod Battling
 pub mod Fleets
 pub mod Footprints
 pub mod EventKeeps
+pub mod Sums
+pub mod Casualties
 pub mod Seen
 pub mod Nexts
 pub mod Brought
@@ -29,6 +35,7 @@ pub mod LimitsOwn
 pub mod Rising
 pub mod LimitsQueues
 pub mod LimitsFleets
+pub mod LimitsBattles
 pub mod LimitsKept
 pub mod LimitsOrders
 pub mod LimitsAsked

@@ -15,8 +15,9 @@ use Rattle.flight.specs.Freight.{capacity_of}
 use Rattle.reply_text.specs.declared.units.Units.{Units}
 use Rattle.tick_model.specs.Changes.{owns}
 use Rattle.tick_model.specs.Events.{lands, footprint}
-use Rattle.tick_model.specs.Flights.{Landed, arrived, back_at, joined_by, landed, landing, moored, recalled_at as recalled_second, supplied, turned, turns}
-use Rattle.tick_model.specs.Limits.{IsLoaded, cargo_units}
+use Rattle.spoils.specs.Harvest.{scraping}
+use Rattle.tick_model.specs.Flights.{Landed, arrived, back_at, both_cargoes, free_room, harvest, harvest_room, harvested, joined_by, landed, landing, moored, recalled_at as recalled_second, supplied, turned, turns, cargo_units}
+use Rattle.tick_model.specs.Limits.{IsLoaded}
 use Rattle.tick_model.specs.Lines.{own_fleets}
 use Rattle.tick_model.specs.Rules.{IsIn, KeepsRules}
 use Rattle.tick_model.specs.Universe.{Own, of_nothing, of_account, of_planet, Fleet, PlanetFields, Setting, State}
@@ -56,10 +57,14 @@ supplied-built : (planet : PlanetFields) (fleet : Fleet) → IsBuiltAlike planet
 unfolding supplied
 supplied-built planet fleet = units-alike planet (supplied planet fleet) refl refl refl
 
+harvested-built : (planet : PlanetFields) (fleet : Fleet) → IsBuiltAlike planet (harvested planet fleet)
+unfolding harvested
+harvested-built planet fleet = units-alike planet (harvested planet fleet) refl refl refl
+
 arrived-steady : (mission : Mission) (fleet : Fleet) (planet : PlanetFields) → length fleet.ships ≡ length SHIPS → IsSteady (of_planet planet) (arrived mission fleet planet).own
 arrived-steady Transport fleet planet kinds = steady-planet planet (supplied planet fleet) (supplied-built planet fleet)
 arrived-steady Deploy fleet planet kinds = steady-planet planet (moored planet fleet) (moored-built planet fleet kinds)
-arrived-steady Harvest fleet planet kinds = steady-itself (of_planet planet)
+arrived-steady Harvest fleet planet kinds = steady-planet planet (harvested planet fleet) (harvested-built planet fleet)
 arrived-steady Attack fleet planet kinds = steady-itself (of_planet planet)
 
 landed_at : (fleet : Fleet) (planet : PlanetFields) (b : Bool) → length fleet.ships ≡ length SHIPS
@@ -130,19 +135,28 @@ landing-fewer setting u fleet player =
     let back = (came_landed fleet (seen_of setting (lands fleet) u)).back in
     changed-fewer player (became_at fleet.number (turns back)) u.fleets (λ old new is. turns-owner back old new (eqb old.number fleet.number) is)
 
--- what it brings back is no more than it had
-arrived-cargo : (mission : Mission) (fleet : Fleet) (planet : PlanetFields) (cargo : Units) → (arrived mission fleet planet).back ≡ Some cargo → cargo_units cargo ≤ cargo_units fleet.cargo
-arrived-cargo Transport fleet planet cargo is = let none : cargo_units cargo ≡ 0 = (let same : record { metal = 0; crystal = 0; deuterium = 0 } ≡ cargo = cc in ap cargo_units (sym same)) in omega (arith, none)
-arrived-cargo Deploy fleet planet cargo is = absurd cc
-arrived-cargo Harvest fleet planet cargo is = let all : cargo_units cargo ≡ cargo_units fleet.cargo = (let same : fleet.cargo ≡ cargo = cc in ap cargo_units (sym same)) in omega (arith, all)
-arrived-cargo Attack fleet planet cargo is = let all : cargo_units cargo ≡ cargo_units fleet.cargo = (let same : fleet.cargo ≡ cargo = cc in ap cargo_units (sym same)) in omega (arith, all)
+-- what it brings back is no more than it carries
+harvest-fits : (fleet : Fleet) (planet : PlanetFields) → cargo_units fleet.cargo ≤ capacity_of fleet.ships → cargo_units (both_cargoes fleet.cargo (harvest planet fleet)) ≤ capacity_of fleet.ships
+unfolding harvest harvest_room free_room scraping
+harvest-fits fleet planet fits = omega (arith, fits)
+
+arrived-cargo : (mission : Mission) (fleet : Fleet) (planet : PlanetFields) (cargo : Units) → (arrived mission fleet planet).back ≡ Some cargo → cargo_units fleet.cargo ≤ capacity_of fleet.ships
+    → cargo_units cargo ≤ capacity_of fleet.ships
+arrived-cargo Transport fleet planet cargo is fits = let none : cargo_units cargo ≡ 0 = (let same : record { metal = 0; crystal = 0; deuterium = 0 } ≡ cargo = cc in ap cargo_units (sym same)) in omega (arith, none)
+arrived-cargo Deploy fleet planet cargo is fits = absurd cc
+arrived-cargo Harvest fleet planet cargo is fits =
+    let all : cargo_units cargo ≡ cargo_units (both_cargoes fleet.cargo (harvest planet fleet)) = (let same : both_cargoes fleet.cargo (harvest planet fleet) ≡ cargo = cc in ap cargo_units (sym same)) in
+    let most = harvest-fits fleet planet fits in
+    omega (arith, all, most)
+arrived-cargo Attack fleet planet cargo is fits = let all : cargo_units cargo ≡ cargo_units fleet.cargo = (let same : fleet.cargo ≡ cargo = cc in ap cargo_units (sym same)) in omega (arith, all, fits)
 
 back_cargo : (fleet : Fleet) (planet : PlanetFields) (cargo : Units) (b : Bool)
-    → (cond b (arrived fleet.mission fleet planet) (record { own = of_planet (moored planet fleet); back = None })).back ≡ Some cargo → cargo_units cargo ≤ cargo_units fleet.cargo
+    → (cond b (arrived fleet.mission fleet planet) (record { own = of_planet (moored planet fleet); back = None })).back ≡ Some cargo → cargo_units fleet.cargo ≤ capacity_of fleet.ships
+    → cargo_units cargo ≤ capacity_of fleet.ships
 back_cargo fleet planet cargo true is = arrived-cargo fleet.mission fleet planet cargo is
 back_cargo fleet planet cargo false is = absurd cc
 
-landed-cargo : (fleet : Fleet) (own : Own) (cargo : Units) → (landed fleet own).back ≡ Some cargo → cargo_units cargo ≤ cargo_units fleet.cargo
+landed-cargo : (fleet : Fleet) (own : Own) (cargo : Units) → (landed fleet own).back ≡ Some cargo → cargo_units fleet.cargo ≤ capacity_of fleet.ships → cargo_units cargo ≤ capacity_of fleet.ships
 landed-cargo fleet of_nothing cargo is = absurd cc
 landed-cargo fleet (of_account account) cargo is = absurd cc
 landed-cargo fleet (of_planet planet) cargo is = back_cargo fleet planet cargo fleet.outbound is
@@ -150,14 +164,14 @@ landed-cargo fleet (of_planet planet) cargo is = back_cargo fleet planet cargo f
 pub loaded-less : (fleet : Fleet) (second : ℕ) (cargo : Units) → cargo_units cargo ≤ cargo_units fleet.cargo → IsLoaded fleet → IsLoaded (turned fleet second cargo)
 loaded-less fleet second cargo less loaded = let most = loaded.1 in (loaded.0, omega (arith, less, most))
 
-turns-loaded : (back : Option Units) (fleet new : Fleet) → ((cargo : Units) → back ≡ Some cargo → cargo_units cargo ≤ cargo_units fleet.cargo) → turns back fleet ≡ Some new → IsLoaded fleet → IsLoaded new
+turns-loaded : (back : Option Units) (fleet new : Fleet) → ((cargo : Units) → back ≡ Some cargo → cargo_units fleet.cargo ≤ capacity_of fleet.ships → cargo_units cargo ≤ capacity_of fleet.ships) → turns back fleet ≡ Some new → IsLoaded fleet → IsLoaded new
 turns-loaded None fleet new less is loaded = absurd cc
 turns-loaded (Some cargo) fleet new less is loaded =
     let same : turned fleet (back_at fleet) cargo ≡ new = cc in
-    subst IsLoaded same (loaded-less fleet (back_at fleet) cargo (less cargo refl) loaded)
+    subst IsLoaded same (loaded.0, less cargo refl loaded.1)
 
 loaded_at : (u : State) (fleet old new : Fleet) (back : Option Units) (b : Bool) → eqb old.number fleet.number ≡ b → (b ≡ true → old ≡ fleet)
-    → ((cargo : Units) → back ≡ Some cargo → cargo_units cargo ≤ cargo_units fleet.cargo) → cond b (turns back old) (Some old) ≡ Some new → IsLoaded old → IsLoaded new
+    → ((cargo : Units) → back ≡ Some cargo → cargo_units fleet.cargo ≤ capacity_of fleet.ships → cargo_units cargo ≤ capacity_of fleet.ships) → cond b (turns back old) (Some old) ≡ Some new → IsLoaded old → IsLoaded new
 loaded_at u fleet old new back true number one less is loaded =
     let same = one refl in
     turns-loaded back fleet new less (ap (turns back) (sym same) ∙ is) (subst IsLoaded same loaded)

@@ -1,5 +1,5 @@
 -- Gains and events keep the limits, and so do seconds.
-use Rattle.std.proofs.Common.{◌≡◌, ℕ, zero, suc, ◌≤◌, inl, inr, ◌&&◌, List, [], ◌∷◌, Option, None, Some, length, arith, refl, ap, ◌∙◌, sym, subst}
+use Rattle.std.proofs.Common.{◌≡◌, ℕ, zero, suc, ◌-◌, ◌≤◌, inl, inr, ◌&&◌, List, [], ◌∷◌, Option, None, Some, length, arith, refl, ap, ◌∙◌, sym, subst}
 use Rattle.base_ids.specs.Cells.{same_cell}
 use Rattle.base_ids.specs.declared.player.Player.{Player}
 use Rattle.base_ids.specs.declared.cell_id.CellId.{CellId}
@@ -8,7 +8,8 @@ use Rattle.catalog.specs.declared.ships.TheConstants.{UNITS}
 use Rattle.laziness.specs.Second.{everything, second, settled, settled_at}
 use Rattle.laziness.proofs.Bringing.{test}
 use Rattle.tick_model.specs.declared.codes.TheConstants.{MOST_QUEUED}
-use Rattle.tick_model.specs.Events.{Event, item_due, lands, Owes, effect, home, next_event}
+use Rattle.tick_model.specs.Changes.{Change}
+use Rattle.tick_model.specs.Events.{Event, item_due, lands, fights, Owes, effect, home, next_event, units_left}
 use Rattle.tick_model.specs.Game.{game}
 use Rattle.tick_model.specs.Limits.{IsLoaded, KeepsLimits}
 use Rattle.tick_model.specs.Lines.{own_fleets, slots_of}
@@ -16,6 +17,9 @@ use Rattle.tick_model.specs.Production.{advance}
 use Rattle.tick_model.specs.Rules.{IsIn, KeepsRules}
 use Rattle.tick_model.specs.Universe.{of_account, AccountFields, QueueClass, Fleet, Item, Setting, State, same_class}
 use Rattle.tick_model.specs.Views.{View, queue_in, view}
+use Rattle.tick_model.proofs.Battling.{after_battle, battle-is}
+use Rattle.tick_model.proofs.LimitsBattles.{battle-fewer, battle-kept, battle-loaded, battle-steady}
+use Rattle.tick_model.proofs.Raids.{raid-in}
 use Rattle.tick_model.proofs.Effects.{StandsBy, after, came_queue, effect-is, event-ends, other-queue, queue-after, seen_of}
 use Rattle.tick_model.proofs.EventLaws.{next_found}
 use Rattle.tick_model.proofs.EventKeeps.{event-keeps}
@@ -71,6 +75,14 @@ event-queued setting state (item_due sort item later) fine stands limits cell cl
     same-most _ _ MOST_QUEUED (ap (λ s. length (queue_in s.items cell class)) (effect-is setting sort item later state)) (after-queued setting state sort item later fine stands limits cell class)
 event-queued setting state (lands fleet) fine stands limits cell class =
     same-most _ _ MOST_QUEUED (ap (λ s. length (queue_in s.items cell class)) (landing-is setting fleet state)) (limits.queued cell class)
+event-queued setting state (fights raid) fine stands limits cell class =
+    let is_in = raid-in setting state raid fine stands in
+    same-most _ _ MOST_QUEUED (ap (λ s. length (queue_in s.items cell class)) (battle-is setting raid state is_in.planet is_in.there)) (limits.queued cell class)
+
+left-most : (event : Event) (change : Change) (seen : CellId → View) (cell : CellId) (a b most : ℕ) → a ≡ units_left event change seen cell b → b ≤ most → a ≤ most
+left-most (item_due class item later) change seen cell a b most same less = omega (arith, same, less)
+left-most (lands fleet) change seen cell a b most same less = omega (arith, same, less)
+left-most (fights raid) change seen cell a b most same less = omega (arith, same, less)
 
 -- every cell keeps its levels after it
 event-kept : (setting : Setting) (state : State) (event : Event) → KeepsRules setting state → Owes (view setting.cells state (home event)) event → KeepsLimits setting state
@@ -78,16 +90,22 @@ event-kept : (setting : Setting) (state : State) (event : Event) → KeepsRules 
 event-kept setting state (item_due class item later) fine stands limits =
     subst (λ (s : State). AllKept s.own s.items) (sym (effect-is setting class item later state)) (done-kept setting state fine (all-kept setting state limits) class item later stands)
 event-kept setting state (lands fleet) fine stands limits =
-    let flies = flies-in setting.cells state (home (lands fleet)) fleet stands in
+    let flies = flies-in setting.cells state (home (lands fleet)) fleet stands.0 in
     subst (λ (s : State). AllKept s.own s.items) (sym (landing-is setting fleet state)) (landing-kept setting state fleet (fine.flying fleet flies).kinds (all-kept setting state limits))
+event-kept setting state (fights raid) fine stands limits =
+    let is_in = raid-in setting state raid fine stands in
+    subst (λ (s : State). AllKept s.own s.items) (sym (battle-is setting raid state is_in.planet is_in.there)) (battle-kept setting state raid fine is_in (all-kept setting state limits))
 
 event-loaded : (setting : Setting) (state : State) (event : Event) → KeepsRules setting state → Owes (view setting.cells state (home event)) event → KeepsLimits setting state
     → (fleet : Fleet) → IsIn fleet (effect setting event state).fleets → IsLoaded fleet
 event-loaded setting state (item_due class item later) fine stands limits fleet is =
     limits.loaded fleet (subst (λ (s : State). IsIn fleet s.fleets) (effect-is setting class item later state) is)
 event-loaded setting state (lands fleet) fine stands limits other is =
-    landing-loaded setting state fleet fine (flies-in setting.cells state (home (lands fleet)) fleet stands) limits.loaded other
+    landing-loaded setting state fleet fine (flies-in setting.cells state (home (lands fleet)) fleet stands.0) limits.loaded other
     (subst (λ (s : State). IsIn other s.fleets) (landing-is setting fleet state) is)
+event-loaded setting state (fights raid) fine stands limits other is =
+    let is_in = raid-in setting state raid fine stands in
+    battle-loaded setting state raid fine is_in limits.loaded other (subst (λ (s : State). IsIn other s.fleets) (battle-is setting raid state is_in.planet is_in.there) is)
 
 -- no account has more fleets than slots
 abbrev HasSlots : State → Type 0
@@ -98,17 +116,22 @@ event-slots setting state (item_due class item later) fine stands limits =
     subst HasSlots (sym (effect-is setting class item later state))
     (slots-kept setting state (after setting class item later state).own state.fleets (done-after-slots setting state class item later) (λ player. omega arith) limits)
 event-slots setting state (lands fleet) fine stands limits =
-    let kinds = (fine.flying fleet (flies-in setting.cells state (home (lands fleet)) fleet stands)).kinds in
+    let kinds = (fine.flying fleet (flies-in setting.cells state (home (lands fleet)) fleet stands.0)).kinds in
     subst HasSlots (sym (landing-is setting fleet state))
     (slots-kept setting state (after_landing setting fleet state).own (after_landing setting fleet state).fleets
     (λ x. steady-slots _ _ (landing-steady setting state fleet kinds x)) (landing-fewer setting state fleet) limits)
+event-slots setting state (fights raid) fine stands limits =
+    let is_in = raid-in setting state raid fine stands in
+    let then = after_battle setting raid state is_in.planet in
+    subst HasSlots (sym (battle-is setting raid state is_in.planet is_in.there))
+    (slots-kept setting state then.own then.fleets (λ x. steady-slots _ _ (battle-steady setting state raid fine is_in x)) (battle-fewer setting state raid fine is_in) limits)
 
--- an event makes no queue longer, and accounts have as many units as before
+-- an event makes no queue longer, and accounts have no more units than before
 pub event-limits : (setting : Setting) (state : State) (event : Event) → KeepsRules setting state → Owes (view setting.cells state (home event)) event → KeepsLimits setting state
     → KeepsLimits setting (effect setting event state)
 event-limits setting state event fine stands limits = record {
   queued = event-queued setting state event fine stands limits;
-  counted = λ player. same-most _ _ UNITS (event-units setting state event (Account player) fine stands) (limits.counted player);
+  counted = λ player. left-most event _ _ (Account player) _ _ UNITS (event-units setting state event (Account player) fine stands) (limits.counted player);
   levelled = λ cell. (event-kept setting state event fine stands limits cell).levelled;
   learned = λ cell. (event-kept setting state event fine stands limits cell).learned;
   loaded = event-loaded setting state event fine stands limits;

@@ -1,7 +1,9 @@
 -- Lists of items and fleets: what is among them, what filters leave of them, and items that are distinct.
-use Rattle.std.proofs.Common.{◌≡◌, ℕ, ◌⊎◌, inl, inr, Bool, true, false, not, cond, eqb, ◌&&◌, ◌||◌, List, [], ◌∷◌, ◌++◌, Option, None, Some, Contains, filter, arith, refl, ap, ◌∙◌, sym, subst}
+use Rattle.std.proofs.Common.{◌≡◌, ℕ, ◌+◌, ◌<◌, ◌≤◌, ◌⊎◌, inl, inr, Bool, true, false, not, cond, eqb, ◌&&◌, ◌||◌, List, [], ◌∷◌, ◌++◌, Option, None, Some, Contains, filter, length, arith, refl, ap, ◌∙◌, sym, subst}
 use Rattle.std.specs.List.{All, list_any, filter_map, cons_option}
 use Rattle.std.proofs.lemmas.List.Elements.{All-cons, All-contains, All-nil, All-weaker}
+use Rattle.std.proofs.lemmas.List.{length-append}
+use Rattle.std.proofs.lemmas.List.Elements.{filter-append}
 use Rattle.std.proofs.lemmas.Bool.Decides.{nat_tests}
 use Rattle.base_ids.specs.Cells.{same_cell, same_player}
 use Rattle.base_ids.specs.declared.player.Player.{Player}
@@ -9,7 +11,9 @@ use Rattle.base_ids.specs.declared.cell_id.CellId.{CellId}
 use Rattle.base_ids.specs.declared.cell_id.CellId.TheVariants.{Account, Planet}
 use Rattle.base_ids.proofs.Names.{coord_is, player_is}
 use Rattle.laziness.proofs.Bringing.{test, never}
-use Rattle.tick_model.specs.Rules.{IsIn, same_flight, same_order, AreApart, AreDistinct}
+use Rattle.tick_model.specs.declared.codes.TheConstants.{MOST_IN_GROUP}
+use Rattle.tick_model.specs.Raids.{outbound_in}
+use Rattle.tick_model.specs.Rules.{IsIn, same_flight, same_order, AreApart, AreDistinct, AreTogether, ArriveTogether, DoRise}
 use Rattle.tick_model.specs.Universe.{QueueClass, Buildings, Researches, Yard, same_class, Fleet, Item}
 
 -- Tests.
@@ -381,3 +385,113 @@ pub apart-changed : (h : Fleet → Option Fleet) (xs : List Fleet) → ((x y : F
 apart-changed h [] keeps apart = tt
 apart-changed h (x ∷ xs) keeps apart =
     apart-changed_at h x xs (h x) refl keeps apart.0 (apart-changed h xs keeps apart.1)
+
+-- Numbers that rise.
+
+rise-changed_at : (h : Fleet → Option Fleet) (x : Fleet) (xs : List Fleet) (o : Option Fleet) → h x ≡ o → ((x y : Fleet) → h x ≡ Some y → y.number ≡ x.number)
+    → ((y : Fleet) → IsIn y xs → x.number < y.number) → DoRise (filter_map h xs) → DoRise (cons_option o (filter_map h xs))
+rise-changed_at h x xs None becomes keeps above rest = rest
+rise-changed_at h x xs (Some new) becomes keeps above rest = (
+  λ y is.
+      let found = from-changed h y xs is in
+      let first = keeps x new becomes in
+      let second = keeps found.0 y found.2 in
+      let less = above found.0 found.1 in
+      omega (arith, first, second, less),
+  rest,
+)
+
+pub rise-changed : (h : Fleet → Option Fleet) (xs : List Fleet) → ((x y : Fleet) → h x ≡ Some y → y.number ≡ x.number) → DoRise xs → DoRise (filter_map h xs)
+rise-changed h [] keeps rise = tt
+rise-changed h (x ∷ xs) keeps rise = rise-changed_at h x xs (h x) refl keeps rise.0 (rise-changed h xs keeps rise.1)
+
+pub rise-append : (xs : List Fleet) (new : Fleet) → DoRise xs → ((a : Fleet) → IsIn a xs → a.number < new.number) → DoRise (xs ++ new ∷ [])
+rise-append [] new rise below = (λ y is. absurd is, tt)
+rise-append (x ∷ xs) new rise below = (
+  λ y is. elim (in-append y xs (new ∷ []) is) [
+    | inl before ↦ rise.0 y before
+    | inr last ↦ elim last [ inl same ↦ subst (λ (f : Fleet). x.number < f.number) (sym same) (below x (inl refl)) | inr nothing ↦ absurd nothing ]
+  ],
+  rise-append xs new rise.1 (λ a is. below a (inr is)),
+)
+
+-- No more fly out in a group if those that do did before.
+
+few-at : (p : Fleet → Bool) (h : Fleet → Option Fleet) (x : Fleet) (xs : List Fleet) (o : Option Fleet) → h x ≡ o → ((x y : Fleet) → h x ≡ Some y → p y ≡ true → p x ≡ true)
+    → length (filter p (filter_map h xs)) ≤ length (filter p xs) → length (filter p (cons_option o (filter_map h xs))) ≤ length (cond (p x) (x ∷ filter p xs) (filter p xs))
+few-at p h x xs None becomes shrinks rest =
+    elim (p x) as (λ b. length (filter p (filter_map h xs)) ≤ length (cond b (x ∷ filter p xs) (filter p xs))) [ true ↦ omega (arith, rest) | false ↦ rest ]
+few-at p h x xs (Some y) becomes shrinks rest =
+    elim (test (p y)) [
+      | inl passes ↦
+          (let before = shrinks x y becomes passes in
+          subst (λ b. length (cond b (y ∷ filter p (filter_map h xs)) (filter p (filter_map h xs))) ≤ length (cond (p x) (x ∷ filter p xs) (filter p xs))) (sym passes)
+          (subst (λ b. length (y ∷ filter p (filter_map h xs)) ≤ length (cond b (x ∷ filter p xs) (filter p xs))) (sym before) (omega (arith, rest))))
+      | inr fails_it ↦
+          subst (λ b. length (cond b (y ∷ filter p (filter_map h xs)) (filter p (filter_map h xs))) ≤ length (cond (p x) (x ∷ filter p xs) (filter p xs))) (sym fails_it)
+          (elim (p x) as (λ b. length (filter p (filter_map h xs)) ≤ length (cond b (x ∷ filter p xs) (filter p xs))) [ true ↦ omega (arith, rest) | false ↦ rest ])
+    ]
+
+fewer-changed : (p : Fleet → Bool) (h : Fleet → Option Fleet) (xs : List Fleet) → ((x y : Fleet) → h x ≡ Some y → p y ≡ true → p x ≡ true) → length (filter p (filter_map h xs)) ≤ length (filter p xs)
+fewer-changed p h [] shrinks = omega arith
+fewer-changed p h (x ∷ xs) shrinks = few-at p h x xs (h x) refl shrinks (fewer-changed p h xs shrinks)
+
+pub few-changed : (h : Fleet → Option Fleet) (xs : List Fleet) → ((x y : Fleet) → h x ≡ Some y → y.outbound ≡ true → x ≡ y) → ((group : ℕ) → length (outbound_in group xs) ≤ MOST_IN_GROUP)
+    → (group : ℕ) → length (outbound_in group (filter_map h xs)) ≤ MOST_IN_GROUP
+few-changed h xs stays few group =
+    let flies = λ (fleet : Fleet). fleet.outbound && eqb fleet.group group in
+    let less = fewer-changed flies h xs (λ x y becomes passes.
+    let out = (and-is y.outbound (eqb y.group group) passes).0 in
+    subst (λ (f : Fleet). (f.outbound && eqb f.group group) ≡ true) (sym (stays x y becomes out)) passes) in
+    let before = few group in
+    omega (arith, less, before)
+
+-- one more has room
+few-one : (p : Fleet → Bool) (new : Fleet) (before : ℕ) → before ≤ MOST_IN_GROUP → (p new ≡ true → before < MOST_IN_GROUP) → before + length (filter p (new ∷ [])) ≤ MOST_IN_GROUP
+few-one p new before few room =
+    elim (test (p new)) [
+      | inl passes ↦ (let less = room passes in subst (λ b. before + length (cond b (new ∷ []) []) ≤ MOST_IN_GROUP) (sym passes) (omega (arith, less)))
+      | inr other ↦ subst (λ b. before + length (cond b (new ∷ []) []) ≤ MOST_IN_GROUP) (sym other) (omega (arith, few))
+    ]
+
+pub few-append : (xs : List Fleet) (new : Fleet) → ((group : ℕ) → length (outbound_in group xs) ≤ MOST_IN_GROUP) → length (outbound_in new.group xs) < MOST_IN_GROUP
+    → (group : ℕ) → length (outbound_in group (xs ++ new ∷ [])) ≤ MOST_IN_GROUP
+few-append xs new few room group =
+    let flies = λ (fleet : Fleet). fleet.outbound && eqb fleet.group group in
+    let split = ap length (filter-append flies xs (new ∷ [])) ∙ length-append (filter flies xs) (filter flies (new ∷ [])) in
+    let one = few-one flies new (length (filter flies xs)) (few group) (λ passes.
+    let same = number-is new.group group (and-is new.outbound (eqb new.group group) passes).1 in
+    subst (λ g. length (outbound_in g xs) < MOST_IN_GROUP) same room) in
+    omega (arith, split, one)
+
+turned-together : (a b : Fleet) → ArriveTogether a b → ArriveTogether b a
+turned-together a b together out_b out_a group = let both = together out_a out_b (sym group) in (sym both.0, sym both.1)
+
+-- A fleet that arrives together with those of its group joins them.
+pub together-append : (xs : List Fleet) (new : Fleet) → AreTogether xs → ((a : Fleet) → IsIn a xs → ArriveTogether a new) → AreTogether (xs ++ new ∷ [])
+together-append xs new together joins a b is_a is_b =
+    elim (in-append a xs (new ∷ []) is_a) [
+      | inl a_before ↦ elim (in-append b xs (new ∷ []) is_b) [
+        | inl b_before ↦ together a b a_before b_before
+        | inr b_last ↦ elim b_last [ inl same ↦ subst (ArriveTogether a) (sym same) (joins a a_before) | inr nothing ↦ absurd nothing ]
+      ]
+      | inr a_last ↦ elim a_last [
+        | inl first ↦ elim (in-append b xs (new ∷ []) is_b) [
+          | inl b_before ↦ subst (λ f. ArriveTogether f b) (sym first) (turned-together b new (joins b b_before))
+          | inr b_last ↦ elim b_last [
+            | inl second ↦ (λ out_a out_b group. let same = first ∙ sym second in (ap (λ (f : Fleet). f.target) same, ap (λ (f : Fleet). f.second) same))
+            | inr nothing ↦ absurd nothing
+          ]
+        ]
+        | inr nothing ↦ absurd nothing
+      ]
+    ]
+
+-- Fleets of a group still arrive together if those that fly out are as before.
+pub together-changed : (h : Fleet → Option Fleet) (xs : List Fleet) → ((x y : Fleet) → h x ≡ Some y → y.outbound ≡ true → x ≡ y) → AreTogether xs → AreTogether (filter_map h xs)
+together-changed h xs stays together a b is_a is_b out_a out_b group =
+    let first = from-changed h a xs is_a in
+    let second = from-changed h b xs is_b in
+    let same_a = stays first.0 a first.2 out_a in
+    let same_b = stays second.0 b second.2 out_b in
+    together a b (subst (λ f. IsIn f xs) same_a first.1) (subst (λ f. IsIn f xs) same_b second.1) out_a out_b group

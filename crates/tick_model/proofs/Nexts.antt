@@ -6,16 +6,18 @@ use Rattle.base_ids.specs.declared.cell_id.CellId.{CellId}
 use Rattle.base_ids.specs.declared.cell_id.CellId.TheVariants.{Planet}
 use Rattle.laziness.specs.Laws.{IsNext, NoneDue}
 use Rattle.laziness.proofs.Bringing.{never}
-use Rattle.tick_model.specs.Events.{Event, item_due, lands, Owes, due_by, due_events, first_due, home, items_owed, landings, next_event, owed, second_of}
+use Rattle.tick_model.specs.Events.{Event, item_due, lands, fights, Owes, coming, due_by, due_events, first_due, home, items_owed, landings, next_event, owed, second_of}
 use Rattle.tick_model.specs.Flights.{landing}
 use Rattle.tick_model.specs.Game.{game}
+use Rattle.tick_model.specs.Raids.{Raid, attacks, is_attack, raid_of}
 use Rattle.tick_model.specs.Requests.{is_there}
 use Rattle.tick_model.specs.Rules.{IsIn, KeepsRules, queue_cell}
 use Rattle.tick_model.specs.Universe.{of_planet, PlanetFields, QueueClass, Buildings, Researches, Yard, Fleet, Item, Setting, State}
 use Rattle.tick_model.specs.Views.{View, belongs, view}
 use Rattle.tick_model.proofs.Keys.{first-none, first-some}
-use Rattle.tick_model.proofs.Lists.{cell-from, cell-is, from-filter, in-append, in-contained, in-filter, in-first, in-second}
+use Rattle.tick_model.proofs.Lists.{and-is, cell-from, cell-is, from-filter, in-append, in-contained, in-filter, in-first, in-second}
 use Rattle.tick_model.proofs.Queues.{owed-home, queued}
+use Rattle.tick_model.proofs.Raids.{raid-in}
 
 pub le-is : (m n : ℕ) → m ≤ n → nat_le m n ≡ true
 le-is m n less = grind (arith, nat_tests)
@@ -88,15 +90,51 @@ items-owes seen Yard item later owes =
 
 -- The fleets that land at a cell.
 
-from-landings : (fleets : List Fleet) (e : Event) → IsIn e (map lands fleets) → (fleet : Fleet) × IsIn fleet fleets × (e ≡ lands fleet)
-from-landings [] e is = absurd is
-from-landings (fleet ∷ fleets) e (inl same) = (fleet, inl refl, same)
-from-landings (fleet ∷ fleets) e (inr later) = let found = from-landings fleets e later in (found.0, inr found.1, found.2)
+from-landings : (comes : Fleet → Event) (fleets : List Fleet) (e : Event) → IsIn e (map comes fleets) → (fleet : Fleet) × IsIn fleet fleets × (e ≡ comes fleet)
+from-landings comes [] e is = absurd is
+from-landings comes (fleet ∷ fleets) e (inl same) = (fleet, inl refl, same)
+from-landings comes (fleet ∷ fleets) e (inr later) = let found = from-landings comes fleets e later in (found.0, inr found.1, found.2)
 
-to-landings : (fleets : List Fleet) (fleet : Fleet) → IsIn fleet fleets → IsIn (lands fleet) (map lands fleets)
-to-landings [] fleet is = absurd is
-to-landings (first ∷ fleets) fleet (inl same) = inl (ap lands same)
-to-landings (first ∷ fleets) fleet (inr later) = inr (to-landings fleets fleet later)
+to-landings : (comes : Fleet → Event) (fleets : List Fleet) (fleet : Fleet) → IsIn fleet fleets → IsIn (comes fleet) (map comes fleets)
+to-landings comes [] fleet is = absurd is
+to-landings comes (first ∷ fleets) fleet (inl same) = inl (ap comes same)
+to-landings comes (first ∷ fleets) fleet (inr later) = inr (to-landings comes fleets fleet later)
+
+-- what a fleet comes to is no item
+no-item : (class : QueueClass) (item : Item) (later : List Item) (raid : Raid) (fleet : Fleet) (b : Bool) → item_due class item later ≡ cond b (fights raid) (lands fleet) → ⊥
+no-item class item later raid fleet true same = cc
+no-item class item later raid fleet false same = cc
+
+-- and if it lands it doesn't attack
+comes-alone : (raid : Raid) (fleet other : Fleet) (b : Bool) → attacks other ≡ b → lands fleet ≡ cond b (fights raid) (lands other) → (fleet ≡ other) × (attacks other ≡ false)
+comes-alone raid fleet other true is same = absurd cc
+comes-alone raid fleet other false is same = (cc, is)
+
+comes-fighting : (raid own : Raid) (other : Fleet) (b : Bool) → attacks other ≡ b → fights raid ≡ cond b (fights own) (lands other) → (raid ≡ own) × (attacks other ≡ true)
+comes-fighting raid own other true is same = (cc, is)
+comes-fighting raid own other false is same = absurd cc
+
+no-fight : (class : QueueClass) (raid : Raid) (items : List Item) → IsIn (fights raid) (first_due class items) → ⊥
+no-fight class raid [] is = is
+no-fight class raid (item ∷ later) (inl same) = absurd cc
+no-fight class raid (item ∷ later) (inr none) = none
+
+no-fights : (seen : View) (raid : Raid) → IsIn (fights raid) (items_owed seen) → ⊥
+no-fights seen raid is =
+    let e = fights raid in
+    let buildings = first_due Buildings (seen.queue Buildings) in
+    let researches = first_due Researches (seen.queue Researches) in
+    elim (in-append e (buildings ++ researches) (first_due Yard (seen.queue Yard)) is) [
+      | inr third ↦ no-fight Yard raid (seen.queue Yard) third
+      | inl others ↦ elim (in-append e buildings researches others) [
+        | inl first ↦ no-fight Buildings raid (seen.queue Buildings) first
+        | inr second ↦ no-fight Researches raid (seen.queue Researches) second
+      ]
+    ]
+
+-- a fleet that attacks comes to its target
+pub landing-out : (fleet : Fleet) → attacks fleet ≡ true → landing fleet ≡ fleet.target
+landing-out fleet hostile = ap (λ b. cond b fleet.target fleet.origin) (and-is fleet.outbound (is_attack fleet.mission) hostile).0
 
 -- a cell where an event is at home owes it
 pub owed-from : (cell : CellId) (seen : View) (e : Event) → home e ≡ cell → Owes seen e → IsIn e (owed cell seen)
@@ -105,7 +143,16 @@ owed-from cell seen (item_due class item later) here owes =
 owed-from cell seen (lands fleet) here owes =
     let lands_here = λ (other : Fleet). same_cell (Planet (landing other)) cell in
     in-second (lands fleet) (items_owed seen) (landings cell seen.fleets)
-    (to-landings (filter lands_here seen.fleets) fleet (in-filter lands_here fleet seen.fleets owes (cell-from (Planet (landing fleet)) cell here)))
+    (subst (λ e. IsIn e (landings cell seen.fleets)) (ap (λ b. cond b (fights (raid_of seen.fleets fleet)) (lands fleet)) owes.1)
+    (to-landings (coming seen.fleets) (filter lands_here seen.fleets) fleet (in-filter lands_here fleet seen.fleets owes.0 (cell-from (Planet (landing fleet)) cell here))))
+owed-from cell seen (fights raid) here owes =
+    let lands_here = λ (other : Fleet). same_cell (Planet (landing other)) cell in
+    let target : raid.target ≡ owes.one.target = ap (λ (r : Raid). r.target) owes.is in
+    let place : Planet (landing owes.one) ≡ cell = ap Planet (landing-out owes.one owes.hostile ∙ sym target) ∙ here in
+    let comes : coming seen.fleets owes.one ≡ fights raid = ap (λ b. cond b (fights (raid_of seen.fleets owes.one)) (lands owes.one)) owes.hostile ∙ ap fights (sym owes.is) in
+    in-second (fights raid) (items_owed seen) (landings cell seen.fleets)
+    (subst (λ e. IsIn e (landings cell seen.fleets)) comes
+    (to-landings (coming seen.fleets) (filter lands_here seen.fleets) owes.one (in-filter lands_here owes.one seen.fleets owes.flies (cell-from (Planet (landing owes.one)) cell place))))
 
 -- an event that a cell owes is at home there
 record OwesAtHome (cell : CellId) (seen : View) (e : Event) : Type 0 where
@@ -120,8 +167,8 @@ at-home setting state cell (item_due class item later) is =
           (let owes = items-from seen class item later queued in
           record { here = owed-home state class cell item later owes; owes = owes })
       | inr fleet ↦
-          (let found = from-landings (filter (λ other. same_cell (Planet (landing other)) cell) seen.fleets) (item_due class item later) fleet in
-          absurd (let same : item_due class item later ≡ lands found.0 = found.2 in cc))
+          (let found = from-landings (coming seen.fleets) (filter (λ other. same_cell (Planet (landing other)) cell) seen.fleets) (item_due class item later) fleet in
+          absurd (no-item class item later (raid_of seen.fleets found.0) found.0 (attacks found.0) found.2))
     ]
 at-home setting state cell (lands fleet) is =
     let seen = view setting.cells state cell in
@@ -129,13 +176,27 @@ at-home setting state cell (lands fleet) is =
     elim (in-append (lands fleet) (items_owed seen) (landings cell seen.fleets) is) [
       | inl queued ↦ absurd (no-landings seen fleet queued)
       | inr landing_here ↦
-          (let found = from-landings (filter lands_here seen.fleets) (lands fleet) landing_here in
-          let event : lands fleet ≡ lands found.0 = found.2 in
-          let same : fleet ≡ found.0 = cc in
+          (let found = from-landings (coming seen.fleets) (filter lands_here seen.fleets) (lands fleet) landing_here in
+          let alone = comes-alone (raid_of seen.fleets found.0) fleet found.0 (attacks found.0) refl found.2 in
           let both = from-filter lands_here found.0 seen.fleets found.1 in
           record {
-            here = ap (λ (f : Fleet). Planet (landing f)) same ∙ cell-is (Planet (landing found.0)) cell both.1;
-            owes = subst (λ f. IsIn f seen.fleets) (sym same) both.0;
+            here = ap (λ (f : Fleet). Planet (landing f)) alone.0 ∙ cell-is (Planet (landing found.0)) cell both.1;
+            owes = (subst (λ f. IsIn f seen.fleets) (sym alone.0) both.0, ap attacks alone.0 ∙ alone.1);
+          })
+    ]
+at-home setting state cell (fights raid) is =
+    let seen = view setting.cells state cell in
+    let lands_here = λ (other : Fleet). same_cell (Planet (landing other)) cell in
+    elim (in-append (fights raid) (items_owed seen) (landings cell seen.fleets) is) [
+      | inl queued ↦ absurd (no-fights seen raid queued)
+      | inr landing_here ↦
+          (let found = from-landings (coming seen.fleets) (filter lands_here seen.fleets) (fights raid) landing_here in
+          let group = comes-fighting raid (raid_of seen.fleets found.0) found.0 (attacks found.0) refl found.2 in
+          let both = from-filter lands_here found.0 seen.fleets found.1 in
+          let target : raid.target ≡ found.0.target = ap (λ (r : Raid). r.target) group.0 in
+          record {
+            here = ap Planet (target ∙ sym (landing-out found.0 group.1)) ∙ cell-is (Planet (landing found.0)) cell both.1;
+            owes = record { one = found.0; flies = both.0; hostile = group.1; is = group.0 };
           })
     ]
 
@@ -201,7 +262,8 @@ landing-listed setting state fleet fine is =
 -- the home of an event that stands is listed
 pub home-listed : (setting : Setting) (state : State) (e : Event) → KeepsRules setting state → Owes (view setting.cells state (home e)) e → Contains setting.cells (home e)
 home-listed setting state (item_due class item later) fine stands = item-listed setting state item fine (queued state class item.cell item later stands item (inl refl)).within
-home-listed setting state (lands fleet) fine stands = landing-listed setting state fleet fine (from-filter (belongs (home (lands fleet))) fleet state.fleets stands).0
+home-listed setting state (lands fleet) fine stands = landing-listed setting state fleet fine (from-filter (belongs (home (lands fleet))) fleet state.fleets stands.0).0
+home-listed setting state (fights raid) fine stands = let is_in = raid-in setting state raid fine stands in fine.listed (Planet raid.target) (ap is_there is_in.there)
 
 -- so the event is
 pub stands-listed : (setting : Setting) (some : CellId → Bool) (second : ℕ) (state : State) (e : Event) → KeepsRules setting state → Owes (view setting.cells state (home e)) e

@@ -12,7 +12,7 @@ use Rattle.tick_model.specs.World.{reply}
 
 -- a line asks for one thing
 call_once : (line : List ℕ) (a b : Call) → AsksFor line a → AsksFor line b → a ≡ b
-call_once line a b asks_a asks_b = one_call true line a b asks_a.spells asks_b.spells
+call_once line a b asks_a asks_b = one_call true line a b asks_a asks_b
 
 -- entries of the same call at the same place and the same reading are one
 entry_once : (number moment : ℕ) (call other : Call) (r s : ℕ) (a b : Entry) → call ≡ other → r ≡ s → IsOf call r a → IsOf other s b → MayFollow number moment a → MayFollow number moment b → a ≡ b

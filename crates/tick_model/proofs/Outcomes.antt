@@ -1,5 +1,5 @@
 -- What comes of a request: nothing is changed, or a planet's own fields are, or an item joins a queue.
-use Rattle.std.proofs.Common.{◌≡◌, ℕ, zero, suc, ◌+◌, ◌-◌, ◌*◌, ◌/◌, ◌<◌, ◌≤◌, inl, inr, List, [], ◌∷◌, ◌++◌, Bool, true, false, not, ◌&&◌, cond, eqb, Option, None, Some, length, nat_le, sum, arith, refl, ap, ◌∙◌, sym, subst}
+use Rattle.std.proofs.Common.{◌≡◌, ℕ, ◌⊎◌, inl, inr, zero, suc, ◌+◌, ◌-◌, ◌*◌, ◌/◌, ◌<◌, ◌≤◌, List, [], ◌∷◌, ◌++◌, Bool, true, false, not, cond, eqb, Option, None, Some, length, nat_le, nat_lt, sum, arith, refl, ap, ◌∙◌, sym, subst, ◌&&◌}
 use Rattle.std.specs.Prelude.{IsTrue, nat_lt}
 use Rattle.std.specs.List.{list_any}
 use Rattle.std.proofs.lemmas.Bool.Decides.{nat_tests}
@@ -28,24 +28,26 @@ use Rattle.laziness.proofs.Bringing.{never}
 use Rattle.reply_text.specs.OrderLines.{back_line}
 use Rattle.request_text.specs.declared.request.Request.{Request}
 use Rattle.request_text.specs.declared.request.Request.TheVariants.{Planet as PlanetOf, Account as AccountOf, Fleets, System as SystemOf, Build, Research, Yard as YardOf, Set, Send, Join, Recall}
-use Rattle.tick_model.specs.declared.codes.TheConstants.{BAD_MISSION, CEILING, LEVEL_CAP, MOST_QUEUED, NO_FIELDS, NO_ROOM, NO_SHIPS, NO_SLOT, NOT_BUILT, NOT_OUTBOUND, NOT_YOURS, POOR, QUEUE_FULL, REQUIRES}
+use Rattle.tick_model.specs.declared.codes.TheConstants.{BAD_MISSION, CEILING, GROUP_FULL, LEVEL_CAP, MOST_IN_GROUP, MOST_QUEUED, NO_FLEET, NO_SHIPS, NO_SLOT, NOT_OUTBOUND, NOT_YOURS, POOR, QUEUE_FULL, REQUIRES, TOO_LATE, NO_FIELDS, NO_ROOM}
 use Rattle.tick_model.specs.Buildings.{pays, started}
 use Rattle.tick_model.specs.Changes.{Change, new_fleet, new_owns, new_queue, no_change, owns, sends_fleet}
-use Rattle.tick_model.specs.Flights.{left_by, recalled_at, turned}
-use Rattle.tick_model.specs.Limits.{IsLoaded, cargo_units}
+use Rattle.tick_model.specs.Flights.{left_by, recalled_at, turned, cargo_units}
 use Rattle.tick_model.specs.Lines.{own_fleets, slots_of}
-use Rattle.tick_model.specs.Production.{level_of}
-use Rattle.tick_model.specs.Refusals.{build_refusal, is_dome, is_full, queued, research_refusal, used_fields, yard_refusal}
-use Rattle.tick_model.specs.Requests.{Sight, Outcome, refused, granted, on_own, on_account, queue_seen, with_planet, ordered, queues, queues_research, queues_batch, builds, researches, yards, own_seen, outcome, shows, sets, tells, tells_fleets, tells_system, errand_of, is_flown, owner_there, recalls, recalls_own, sends, sends_on}
-use Rattle.tick_model.specs.Sending.{Errand, can_go, departed, fleet_of, fuel_of, has_room, has_ships, load_of, launched, seconds_to, send_refusal, suits}
+use Rattle.tick_model.specs.Raids.{companions, raiders}
+use Rattle.tick_model.specs.Refusals.{build_refusal, is_full, research_refusal, yard_refusal, is_dome, queued, used_fields}
+use Rattle.tick_model.specs.Requests.{Sight, Outcome, refused, granted, on_own, on_account, queue_seen, with_planet, ordered, queues, queues_research, queues_batch, builds, researches, yards, own_seen, outcome, shows, sets, tells, tells_fleets, tells_system, companions_seen, errand_of, joins_on, joins_raid, owner_there, raiders_seen, recalls, recalls_own, sends, sends_on}
+use Rattle.tick_model.specs.Sending.{Errand, arrival_of, can_go, departed, fleet_of, has_ships, is_late, join_refusal, launched, seconds_to, send_refusal, suits, with_group, fuel_of, has_room, load_of}
 use Rattle.tick_model.specs.Researches.{pays_research, started_research}
-use Rattle.tick_model.specs.Rules.{IsBatch, queue_cell}
-use Rattle.tick_model.specs.Universe.{Own, of_nothing, of_account, of_planet, AccountFields, QueueClass, Buildings, Researches, Yard, PlanetFields, Fleet, Item}
-use Rattle.tick_model.specs.Yards.{begun, count_of, pays_batch}
+use Rattle.tick_model.specs.Rules.{IsBatch, IsIn, queue_cell}
+use Rattle.tick_model.specs.Universe.{Own, of_nothing, of_account, of_planet, AccountFields, Buildings, Researches, Yard, PlanetFields, Fleet, Item, QueueClass}
+use Rattle.tick_model.specs.Yards.{begun, pays_batch, count_of}
+use Rattle.tick_model.specs.Limits.{IsLoaded}
+use Rattle.tick_model.specs.Production.{level_of}
 use Rattle.tick_model.proofs.Ends.{duration-least, research-least, unit-least}
 use Rattle.tick_model.proofs.Fleets.{IsFleetOf, fleet-found}
 use Rattle.tick_model.proofs.Lists.{and-is, not-false, not-true, number-is, or-is, player-from}
 use Rattle.tick_model.proofs.Owns.{IsAlike, Stays, alike-itself, put-alike}
+use Rattle.tick_model.proofs.Raids.{raiders-are}
 use Rattle.tick_model.proofs.Steady.{IsBuiltAlike, IsSteady, left-below, one-account, one-planet, put-steady, steady-itself, steady-planet, units-alike}
 use Rattle.tick_model.proofs.Units.{unit-place}
 
@@ -87,6 +89,12 @@ pub record IsOrdered (sight : Sight) (player : Player) (item : Item) : Type 0 wh
   pub few : item.class ≡ Yard → (sight.seen (Account player)).units + item.left ≤ UNITS
   pub allowed : IsAllowed item.class item (owns sight.seen item.cell) (queue_seen sight item.cell item.class)
 
+-- a fleet flies in a group of its own, or along with one that flies to the same place
+pub data IsGrouped (fleets : List Fleet) (fleet : Fleet) : Type 0 where
+  alone : fleet.group ≡ fleet.number → IsGrouped fleets fleet
+  along : (leader : Fleet) → IsIn leader fleets → leader.outbound ≡ true → leader.group ≡ fleet.group → leader.target ≡ fleet.target → leader.second ≡ fleet.second
+      → IsGrouped fleets fleet
+
 -- A fleet that a request sends from a planet of the caller, which is as before but for its stocks and units. It bears the request's
 -- number, and comes due after the request's moment.
 pub record IsSent (sight : Sight) (player : Player) (own : CellId → Own) (fleet : Fleet) : Type 0 where
@@ -111,6 +119,9 @@ pub record IsSent (sight : Sight) (player : Player) (own : CellId → Own) (flee
   pub later : fleet.launch < fleet.second
   pub runs : sight.moment < fleet.second
   pub is_deployed : fleet.mission ≡ Deploy → fleet.target_owner ≡ fleet.owner
+  pub grouped : IsGrouped (sight.seen (Planet fleet.target)).fleets fleet
+  -- where there is room for it
+  pub room : (fleet.group ≡ fleet.number) ⊎ (length (companions fleet.target fleet.group (sight.seen (Planet fleet.target)).fleets) < MOST_IN_GROUP)
 
 -- what becomes of a fleet that is recalled
 abbrev pub recalled : Sight → Fleet → Option Fleet
@@ -164,9 +175,9 @@ allowed-research item own account items seen there is below a has =
 
 allowed-batch : (item : Item) (own : Own) (planet : PlanetFields) (items seen : List Item) → own ≡ of_planet planet → items ≡ seen
     → (is_dome item.kind ≡ true → count_of planet item.kind + queued item.kind items + item.left ≤ 1) → IsAllowed Yard item own seen
-allowed-batch item own planet items seen there is alone p has dome =
+allowed-batch item own planet items seen there is lone p has dome =
     subst (λ (x : PlanetFields). count_of x item.kind + queued item.kind seen + item.left ≤ 1) (one-planet planet p (sym there ∙ has))
-    (subst (λ queue. count_of planet item.kind + queued item.kind queue + item.left ≤ 1) is (alone dome))
+    (subst (λ queue. count_of planet item.kind + queued item.kind queue + item.left ≤ 1) is (lone dome))
 
 room-seen : (items seen : List Item) → items ≡ seen → length items < MOST_QUEUED → length seen < MOST_QUEUED
 room-seen items seen is room = subst (λ queue. length queue < MOST_QUEUED) is room
@@ -204,14 +215,14 @@ research-change sight player req at kind account planet (first ∷ later) own is
 batch-change : (sight : Sight) (player : Player) (req : Request) (at : Coord) (kind : Kind) (count : ℕ) (account : AccountFields) (planet : PlanetFields) (items : List Item) → IsOwn sight player at account planet
     → 1 ≤ count → place_in UNIT_KINDS kind < length UNIT_KINDS → items ≡ queue_seen sight (Planet at) Yard → length items < MOST_QUEUED → (sight.seen (Account player)).units + count ≤ UNITS
     → (is_dome kind ≡ true → count_of planet kind + queued kind items + count ≤ 1) → Changes sight player req (queues_batch sight at kind count planet items).change
-batch-change sight player req at kind count account planet [] own some known is room few alone =
+batch-change sight player req at kind count account planet [] own some known is room few lone =
     let new = pays_batch planet kind count in
     let item = begun sight.rules.speed sight.moment planet (ordered sight (Planet at) Yard at kind count) in
     let least = unit-least sight.rules.speed planet kind in
     joined (with_planet sight at new) item (planet-alike sight at planet new own.there (refl, refl)) (planet-steady sight at planet new own.there refl refl refl)
-    (record { account = account; planet = planet; is_own = own; number = refl; cell = refl; batch = (some, known); runs = λ none. omega (arith, least); paced = λ none yard. least; room = room-seen _ _ is room; few = λ yard. few; allowed = allowed-batch item (owns sight.seen (Planet at)) planet _ _ own.there is alone })
+    (record { account = account; planet = planet; is_own = own; number = refl; cell = refl; batch = (some, known); runs = λ none. omega (arith, least); paced = λ none yard. least; room = room-seen _ _ is room; few = λ yard. few; allowed = allowed-batch item (owns sight.seen (Planet at)) planet _ _ own.there is lone })
     (ap (λ items. new_queue (with_planet sight at new) (Planet at) Yard (items ++ item ∷ [])) is)
-batch-change sight player req at kind count account planet (first ∷ later) own some known is room few alone =
+batch-change sight player req at kind count account planet (first ∷ later) own some known is room few lone =
     let new = pays_batch planet kind count in
     let item = ordered sight (Planet at) Yard at kind count in
     joined (with_planet sight at new) item (planet-alike sight at planet new own.there (refl, refl)) (planet-steady sight at planet new own.there refl refl refl)
@@ -226,7 +237,7 @@ batch-change sight player req at kind count account planet (first ∷ later) own
       paced = λ none yard. some-before first later _ is none;
       room = room-seen _ _ is room;
       few = λ yard. few;
-      allowed = allowed-batch item (owns sight.seen (Planet at)) planet _ _ own.there is alone;
+      allowed = allowed-batch item (owns sight.seen (Planet at)) planet _ _ own.there is lone;
     })
     (ap (λ items. new_queue (with_planet sight at new) (Planet at) Yard (items ++ item ∷ [])) is)
 
@@ -438,18 +449,29 @@ owner-there player (of_planet planet) to is = let same : planet ≡ to = cc in a
 owner-there player of_nothing to is = absurd cc
 owner-there player (of_account account) to is = absurd cc
 
+-- the fleet that leaves on an errand, with a group and a second of its arrival
+abbrev pub leaving : Sight → Player → Errand → AccountFields → ℕ → ℕ → Fleet
+leaving sight player errand account group second =
+    with_group group second (launched sight.rules.speed sight.number sight.moment player account (owner_there player (own_seen sight (Planet errand.to))) errand)
+
+-- it has ships, a slot, and room for its cargo
+pub record HasFit (sight : Sight) (player : Player) (errand : Errand) (account : AccountFields) : Type 0 where
+  pub some : IsTrue (list_any (λ count. nat_lt 0 count) errand.ships)
+  pub slot : length (own_fleets player (sight.seen (Account player)).fleets) < slots_of account
+  pub cargo : has_room account errand ≡ true
+
 -- a fleet that isn't refused is sent
-sends-change : (sight : Sight) (player : Player) (req : Request) (errand : Errand) (account : AccountFields) (planet : PlanetFields) → length errand.ships ≡ length SHIPS
-    → IsOwn sight player errand.from account planet → has_ships planet.units errand.ships ≡ true → can_go player errand (own_seen sight (Planet errand.to)) ≡ true
-    → IsTrue (list_any (λ count. nat_lt 0 count) errand.ships) → length (own_fleets player (sight.seen (Account player)).fleets) < slots_of account → has_room account errand ≡ true
-    → Changes sight player req (sends sight player errand account planet).change
-sends-change sight player req errand account planet kinds own has goes some slot room =
+leaves-so : (sight : Sight) (player : Player) (errand : Errand) (account : AccountFields) (planet : PlanetFields) (group second : ℕ) → length errand.ships ≡ length SHIPS
+    → IsOwn sight player errand.from account planet → has_ships planet.units errand.ships ≡ true → can_go player errand (own_seen sight (Planet errand.to)) ≡ true → sight.moment < second
+    → IsGrouped (sight.seen (Planet errand.to)).fleets (leaving sight player errand account group second)
+    → (group ≡ sight.number) ⊎ (length (companions errand.to group (sight.seen (Planet errand.to)).fleets) < MOST_IN_GROUP)
+    → HasFit sight player errand account
+    → IsSent sight player (with_planet sight errand.from (departed account planet errand)) (leaving sight player errand account group second)
+leaves-so sight player errand account planet group second kinds own has goes later grouped room fit =
     let target = own_seen sight (Planet errand.to) in
     let to = goes-to player errand target goes in
     let theirs = owner-there player target to.to to.reaches in
-    let fleet = launched sight.rules.speed sight.number sight.moment player account (owner_there player target) errand in
-    let least = flight-least sight.rules.speed account errand sight.rules.speed_from in
-    dispatched (with_planet sight errand.from (departed account planet errand)) fleet (record {
+    record {
       account = account;
       planet = planet;
       departed = departed account planet errand;
@@ -458,18 +480,88 @@ sends-change sight player req errand account planet kinds own has goes some slot
       own_is = refl;
       gone = departed-sum account planet errand has;
       built = departed-built account planet errand;
-      loaded = (some-ships errand.ships some, cargo-fits account errand room);
-      slot = slot;
+      loaded = (some-ships errand.ships fit.some, cargo-fits account errand fit.cargo);
+      slot = fit.slot;
       to = to.to;
       reaches = to.reaches;
       is_theirs = theirs;
       number = refl;
       owner = refl;
       kinds = kinds;
-      later = omega (arith, least);
-      runs = omega (arith, least);
+      later = later;
+      runs = later;
       is_deployed = λ is. sym theirs ∙ to.is_deployed is;
-    }) refl
+      grouped = grouped;
+      room = room;
+    }
+
+sends-change : (sight : Sight) (player : Player) (req : Request) (errand : Errand) (account : AccountFields) (planet : PlanetFields) → length errand.ships ≡ length SHIPS
+    → IsOwn sight player errand.from account planet → has_ships planet.units errand.ships ≡ true → can_go player errand (own_seen sight (Planet errand.to)) ≡ true → HasFit sight player errand account
+    → Changes sight player req (sends sight player errand account planet).change
+sends-change sight player req errand account planet kinds own has goes fit =
+    let least = flight-least sight.rules.speed account errand sight.rules.speed_from in
+    let second = sight.moment + seconds_to sight.rules.speed account errand in
+    dispatched (with_planet sight errand.from (departed account planet errand)) (leaving sight player errand account sight.number second)
+    (leaves-so sight player errand account planet sight.number second kinds own has goes (omega (arith, least)) (alone refl) (inl refl) fit) refl
+
+-- why a fleet that joins a raid isn't refused
+pub record MayJoin (sight : Sight) (player : Player) (errand : Errand) (account : AccountFields) (planet : PlanetFields) (raid : List Fleet) (fleets companions : ℕ) : Type 0 where
+  pub some : nat_le (length raid) 0 ≡ false
+  pub room : companions < MOST_IN_GROUP
+  pub has : has_ships planet.units errand.ships ≡ true
+  pub goes : can_go player errand (own_seen sight (Planet errand.to)) ≡ true
+  pub in_time : sight.moment + seconds_to sight.rules.speed account errand ≤ arrival_of raid
+  pub slot : fleets < slots_of account
+  pub cargo : has_room account errand ≡ true
+
+below-most : (companions : ℕ) → nat_le MOST_IN_GROUP companions ≡ false → companions < MOST_IN_GROUP
+below-most companions is = grind (arith, nat_tests)
+
+in-time : (arrival leaves : ℕ) → nat_lt arrival leaves ≡ false → leaves ≤ arrival
+in-time arrival leaves is = grind (arith, nat_tests)
+
+pub may-join : (sight : Sight) (player : Player) (errand : Errand) (account : AccountFields) (planet : PlanetFields) (raid : List Fleet) (fleets companions : ℕ)
+    → join_refusal sight.rules.speed sight.moment player account fleets planet (own_seen sight (Planet errand.to)) errand raid companions ≡ 0 → MayJoin sight player errand account planet raid fleets companions
+unfolding join_refusal
+may-join sight player errand account planet raid fleets companions none =
+    let some : (1 ≤ NO_FLEET) × (1 ≤ GROUP_FULL) × (1 ≤ NO_SHIPS) × (1 ≤ BAD_MISSION) × (1 ≤ NO_SLOT) × (1 ≤ TOO_LATE) = (omega arith, omega arith, omega arith, omega arith, omega arith, omega arith) in
+    let target = own_seen sight (Planet errand.to) in
+    let group = passed NO_FLEET _ (nat_le (length raid) 0) some.0 none in
+    let room = passed GROUP_FULL _ (nat_le MOST_IN_GROUP companions) some.1 group.1 in
+    let ships = passed NO_SHIPS _ (not (has_ships planet.units errand.ships)) some.2 room.1 in
+    let goes = passed BAD_MISSION _ (not (can_go player errand target)) some.3 ships.1 in
+    let slot = passed NO_SLOT _ (nat_le (slots_of account) fleets) some.4 goes.1 in
+    let late = passed TOO_LATE _ (is_late sight.rules.speed sight.moment account errand raid) some.5 slot.1 in
+    let cargo = passed NO_ROOM _ (not (has_room account errand)) (omega arith) late.1 in
+    record {
+      some = group.0;
+      room = below-most companions room.0;
+      has = not-false (has_ships planet.units errand.ships) ships.0;
+      goes = not-false (can_go player errand target) goes.0;
+      in_time = in-time (arrival_of raid) (sight.moment + seconds_to sight.rules.speed account errand) late.0;
+      slot = below-cap (slots_of account) fleets slot.0;
+      cargo = not-false (has_room account errand) cargo.0;
+    }
+
+-- a raid that isn't empty has a fleet with which others can arrive
+raid-leads : (at : Coord) (group : ℕ) (fleets : List Fleet) (raid : List Fleet) (fleet : Fleet) → raiders at group fleets ≡ raid → nat_le (length raid) 0 ≡ false → fleet.target ≡ at → fleet.group ≡ group
+    → fleet.second ≡ arrival_of raid → IsGrouped fleets fleet
+raid-leads at group fleets [] fleet is some target grouped second = absurd (never true refl some)
+raid-leads at group fleets (first ∷ later) fleet is some target grouped second =
+    let leads = raiders-are at group fleets first (subst (IsIn first) (sym is) (inl refl)) in
+    along first leads.within leads.out (leads.group_is ∙ sym grouped) (leads.target ∙ sym target) (sym second)
+
+joins-change : (sight : Sight) (player : Player) (req : Request) (group : ℕ) (errand : Errand) (account : AccountFields) (planet : PlanetFields) → length errand.ships ≡ length SHIPS
+    → IsOwn sight player errand.from account planet → MayJoin sight player errand account planet (raiders_seen sight errand.to group) (length (own_fleets player (sight.seen (Account player)).fleets)) (length (companions_seen sight errand.to group))
+    → HasFit sight player errand account → Changes sight player req (joins_raid sight player group errand account planet).change
+joins-change sight player req group errand account planet kinds own may fit =
+    let least = flight-least sight.rules.speed account errand sight.rules.speed_from in
+    let raid = raiders_seen sight errand.to group in
+    let in_time = may.in_time in
+    let fleet = leaving sight player errand account group (arrival_of raid) in
+    dispatched (with_planet sight errand.from (departed account planet errand)) fleet
+    (leaves-so sight player errand account planet group (arrival_of raid) kinds own may.has may.goes (omega (arith, least, in_time))
+    (raid-leads errand.to group (sight.seen (Planet errand.to)).fleets raid fleet refl may.some refl refl refl) (inr may.room) fit) refl
 
 recalls_at : (sight : Sight) (player : Player) (number : FleetNumber) (fleet : Fleet) (b : Bool) → fleet.outbound ≡ b → IsFleetOf player number.f (sight.seen (Account player)).fleets fleet
     → Changes sight player (Recall number)
@@ -482,10 +574,6 @@ recalls-change : (sight : Sight) (player : Player) (number : FleetNumber) (found
 recalls-change sight player number None is = nothing refl
 recalls-change sight player number (Some fleet) is =
     recalls_at sight player number fleet fleet.outbound refl (fleet-found player number.f (sight.seen (Account player)).fleets fleet is)
-
-flown-change : (sight : Sight) (player : Player) (req : Request) (b : Bool) (grant : Outcome) → Changes sight player req grant.change → Changes sight player req (cond b grant (refused sight NOT_BUILT)).change
-flown-change sight player req true grant granted = granted
-flown-change sight player req false grant granted = nothing refl
 
 pub outcome-changes : (sight : Sight) (player : Player) (req : Request) → Changes sight player req (outcome sight player req).change
 outcome-changes sight player (PlanetOf at) = at-own sight player (PlanetOf at) at (shows sight at) (λ account planet own. nothing refl)
@@ -516,14 +604,24 @@ outcome-changes sight player (SystemOf system) = account-change sight player (Sy
 outcome-changes sight player (Send from to mission setting ships cargo) =
     let req = Send from to mission setting ships cargo in
     let errand = errand_of from to mission setting.p ships.n cargo in
-    flown-change sight player req (is_flown mission) _ (at-own sight player req from (sends_on sight player errand) (λ account planet own.
+    at-own sight player req from (sends_on sight player errand) (λ account planet own.
     let fleets = length (own_fleets player (sight.seen (Account player)).fleets) in
     let target = own_seen sight (Planet to) in
     unless-refused sight player req (send_refusal player account fleets planet target errand) (sends sight player errand account planet) (λ none.
     let goes = send-goes player account fleets planet target errand none in
     let fits = send-fits player account fleets planet target errand none in
-    sends-change sight player req errand account planet ships.kinds own goes.0 goes.1 ships.some fits.0 fits.1)))
+    sends-change sight player req errand account planet ships.kinds own goes.0 goes.1 (record { some = ships.some; slot = fits.0; cargo = fits.1 })))
 outcome-changes sight player (Recall fleet) =
     account-change sight player (Recall fleet) (own_seen sight (Account player)) (recalls_own sight player fleet.f) (λ account.
     recalls-change sight player fleet (fleet_of player fleet.f (sight.seen (Account player)).fleets) refl)
-outcome-changes sight player (Join fleet from to setting ships cargo) = nothing refl
+outcome-changes sight player (Join group from to setting ships cargo) =
+    let req = Join group from to setting ships cargo in
+    let errand = errand_of from to Attack setting.p ships.n cargo in
+    at-own sight player req from (joins_on sight player group.f errand) (λ account planet own.
+    let fleets = length (own_fleets player (sight.seen (Account player)).fleets) in
+    let target = own_seen sight (Planet to) in
+    let raid = raiders_seen sight to group.f in
+    let companions = length (companions_seen sight to group.f) in
+    unless-refused sight player req (join_refusal sight.rules.speed sight.moment player account fleets planet target errand raid companions) (joins_raid sight player group.f errand account planet) (λ none.
+    let may = may-join sight player errand account planet raid fleets companions none in
+    joins-change sight player req group.f errand account planet ships.kinds own may (record { some = ships.some; slot = may.slot; cargo = may.cargo })))

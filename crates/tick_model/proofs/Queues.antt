@@ -1,5 +1,5 @@
 -- The queues of cells among all items: what stands in them, and what does once one of them was written anew.
-use Rattle.std.proofs.Common.{◌≡◌, inl, Bool, true, false, not, cond, eqb, ◌&&◌, List, ◌∷◌, ◌++◌, filter, arith, refl, ap, ◌∙◌, sym, subst}
+use Rattle.std.proofs.Common.{◌≡◌, ℕ, inl, Bool, true, false, not, cond, eqb, ◌&&◌, List, ◌∷◌, ◌++◌, filter, arith, refl, ap, ◌∙◌, sym, subst}
 use Rattle.std.proofs.lemmas.List.{append-nil}
 use Rattle.std.proofs.lemmas.List.Elements.{filter-append}
 use Rattle.base_ids.specs.Cells.{same_cell}
@@ -7,11 +7,12 @@ use Rattle.base_ids.specs.Order.{key_before}
 use Rattle.base_ids.specs.declared.cell_id.CellId.{CellId}
 use Rattle.base_ids.proofs.Ordering.{events_ordered}
 use Rattle.laziness.proofs.Bringing.{never}
-use Rattle.tick_model.specs.Events.{Event, item_due, lands, Owes, home, key_of, step_of}
+use Rattle.tick_model.specs.Events.{Event, item_due, lands, fights, Owes, home, key_of, step_of}
 use Rattle.tick_model.specs.Rules.{IsIn, KeepsRules}
 use Rattle.tick_model.specs.Universe.{Own, QueueClass, Buildings, Researches, Yard, same_class, Item, Setting, State}
 use Rattle.tick_model.specs.Views.{belongs, queue_in, stands_in, view}
 use Rattle.tick_model.proofs.Lists.{and-from, and-is, cell-from, cell-is, class-from, class-is, distinct-one, fails, filter-all, filter-idle, filter-none, fleet-one, from-filter, not-true, same_number}
+use Rattle.tick_model.proofs.Raids.{raids-one}
 use Rattle.tick_model.proofs.Writes.{with_queue}
 
 -- an item of a queue is one of all, and stands there
@@ -89,6 +90,16 @@ apart_at Researches false same = omega arith
 apart_at Yard true same = omega arith
 apart_at Yard false same = omega arith
 
+-- and so has a battle
+item-fight : (class : QueueClass) → step_of class ≡ 5 → ⊥
+item-fight Buildings same = omega arith
+item-fight Researches same = omega arith
+item-fight Yard same = omega arith
+
+landing-fight : (b : Bool) → ◌≡◌ {A = ℕ} (cond b 4 6) 5 → ⊥
+landing-fight true same = omega arith
+landing-fight false same = omega arith
+
 -- of two events that stand one acts first
 pub one-event : (setting : Setting) (state : State) (e d : Event) → KeepsRules setting state → Owes (view setting.cells state (home e)) e
     → Owes (view setting.cells state (home d)) d → key_before (key_of e) (key_of d) ≡ false → key_before (key_of d) (key_of e) ≡ false → e ≡ d
@@ -111,6 +122,21 @@ one-event setting state (lands fleet) (item_due class item later) fine stands st
     absurd (apart_at class fleet.outbound (sym (ap (λ k. k.step) key)))
 one-event setting state (lands fleet) (lands other) fine stands stands' first second =
     let key = events_ordered.total (key_of (lands fleet)) (key_of (lands other)) first second in
-    let here = from-filter (belongs (home (lands fleet))) fleet state.fleets stands in
-    let there = from-filter (belongs (home (lands other))) other state.fleets stands' in
+    let here = from-filter (belongs (home (lands fleet))) fleet state.fleets stands.0 in
+    let there = from-filter (belongs (home (lands other))) other state.fleets stands'.0 in
     ap lands (fleet-one state.fleets fleet other fine.apart here.0 there.0 (ap (λ k. eqb k.number other.number) key ∙ same_number other.number))
+one-event setting state (item_due class item later) (fights raid) fine stands stands' first second =
+    let key = events_ordered.total (key_of (item_due class item later)) (key_of (fights raid)) first second in
+    absurd (item-fight class (ap (λ k. k.step) key))
+one-event setting state (fights raid) (item_due class item later) fine stands stands' first second =
+    let key = events_ordered.total (key_of (fights raid)) (key_of (item_due class item later)) first second in
+    absurd (item-fight class (sym (ap (λ k. k.step) key)))
+one-event setting state (lands fleet) (fights raid) fine stands stands' first second =
+    let key = events_ordered.total (key_of (lands fleet)) (key_of (fights raid)) first second in
+    absurd (landing-fight fleet.outbound (ap (λ k. k.step) key))
+one-event setting state (fights raid) (lands fleet) fine stands stands' first second =
+    let key = events_ordered.total (key_of (fights raid)) (key_of (lands fleet)) first second in
+    absurd (landing-fight fleet.outbound (sym (ap (λ k. k.step) key)))
+one-event setting state (fights raid) (fights other) fine stands stands' first second =
+    let key = events_ordered.total (key_of (fights raid)) (key_of (fights other)) first second in
+    ap fights (raids-one setting state raid other fine stands stands' (ap (λ k. k.number) key))

@@ -8,7 +8,7 @@ use Rattle.request_text.specs.declared.entry.Entry.{Entry}
 use Rattle.laziness.specs.Laws.{Agree, Covers, IsReady, Stands}
 use Rattle.laziness.proofs.Bringing.{never}
 use Rattle.tick_model.specs.Changes.{write}
-use Rattle.tick_model.specs.Events.{Event, item_due, lands, home, is_payer, second_of}
+use Rattle.tick_model.specs.Events.{Event, item_due, lands, fights, home, is_payer, second_of}
 use Rattle.tick_model.specs.Game.{brings, game, own_brings, research_brings}
 use Rattle.tick_model.specs.Requests.{asked, is_there, outcome}
 use Rattle.tick_model.specs.Rules.{KeepsRules}
@@ -103,11 +103,13 @@ act_depends setting S t u v a ready ready' count agree x in_set =
 -- an event stands exactly if its queue is there, or its fleet flies
 comes-is : (setting : Setting) (u : State) (e : Event) → Stands (game setting) u e → Comes u e
 comes-is setting u (item_due class item later) stands = stands
-comes-is setting u (lands fleet) stands = flies-in setting.cells u (home (lands fleet)) fleet stands
+comes-is setting u (lands fleet) stands = (flies-in setting.cells u (home (lands fleet)) fleet stands.0, stands.1)
+comes-is setting u (fights raid) stands = stands
 
 is-comes : (setting : Setting) (u : State) (e : Event) → Comes u e → Stands (game setting) u e
 is-comes setting u (item_due class item later) comes = comes
-is-comes setting u (lands fleet) comes = in-filter (belongs (home (lands fleet))) fleet u.fleets comes (landing-belongs fleet)
+is-comes setting u (lands fleet) comes = (in-filter (belongs (home (lands fleet))) fleet u.fleets comes.0 (landing-belongs fleet), comes.1)
+is-comes setting u (fights raid) comes = comes
 
 pub act_arises : (setting : Setting) (S : CellId → Bool) (t : ℕ) (u : State) (a : Entry) (d : Event) → IsReady (game setting) S t a u → S (home d) ≡ true → Stands (game setting) (step setting a.player a.req t u).state d
     → Stands (game setting) u d ⊎ (t < second_of d)

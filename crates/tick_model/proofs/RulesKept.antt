@@ -4,17 +4,18 @@ use Rattle.std.proofs.lemmas.Bool.Decides.{nat_tests}
 use Rattle.base_ids.specs.Cells.{same_cell}
 use Rattle.base_ids.specs.declared.cell_id.CellId.{CellId}
 use Rattle.laziness.proofs.Bringing.{never, test}
-use Rattle.tick_model.specs.Rules.{AreDistinct, IsFlying, IsIn, IsPlaced, KeepsRules, same_order}
+use Rattle.tick_model.specs.Rules.{AreDistinct, ArriveTogether, IsFlying, IsIn, IsPlaced, KeepsRules, same_order}
 use Rattle.tick_model.specs.Flights.{recalled_at, turned}
 use Rattle.tick_model.specs.Universe.{Own, Yard, Fleet, Item, same_class, Setting, State}
 use Rattle.tick_model.specs.Views.{queue_in, stands_in}
-use Rattle.tick_model.proofs.Lists.{and-is, apart-append, apart-changed, cell-is, class-is, distinct-append, distinct-filter, distinct-one, fails, from-changed, from-filter, in-append}
+use Rattle.tick_model.proofs.Lists.{and-is, apart-append, apart-changed, cell-is, class-is, distinct-append, distinct-filter, distinct-one, fails, from-changed, from-filter, in-append, few-append, few-changed, rise-append, rise-changed, together-append, together-changed}
+use Rattle.tick_model.proofs.Outcomes.{IsGrouped, alone, along}
 use Rattle.tick_model.proofs.Owns.{alike-stays, stays-itself}
 use Rattle.tick_model.proofs.EventKeeps.{turned-flies}
 use Rattle.tick_model.proofs.Queues.{queue-new, queue-other, queued-in}
 use Rattle.tick_model.proofs.Staying.{AllStay, flying-still, keeps-owns, placed-still, stay-kinds, stay-listed, stay-owned}
 use Rattle.tick_model.proofs.Writes.{became_at, with_fleet, with_owns, with_queue, with_sent}
-use Rattle.tick_model.proofs.Written.{AllAlike, IsNew, Makes, stays, changed, ordered, sent, recalled, recalled_by, standing}
+use Rattle.tick_model.proofs.Written.{AllAlike, IsNew, IsNewFleet, Makes, stays, changed, ordered, sent, recalled, recalled_by, standing}
 
 all-stay : (u : State) (own : CellId → Own) → AllAlike u own → AllStay u.own own
 all-stay u own alike x = alike-stays (u.own x) (own x) (alike x)
@@ -106,6 +107,9 @@ numbered setting u fine = record {
   flying = λ fleet is. flying-still u (record u { number = u.number + 1 }) fleet (λ x. stays-itself (u.own x)) (fine.flying fleet is);
   sent = λ fleet is. earlier-fleet setting u fleet fine is;
   apart = fine.apart;
+  rise = fine.rise;
+  together = fine.together;
+  few = fine.few;
 }
 
 -- a fleet flew before, or is the new one
@@ -125,6 +129,24 @@ recalled-flies u t old new false becomes flying = let same : old ≡ new = cc in
 recalled-number : (t : ℕ) (old new : Fleet) (b : Bool) → cond b (recalled_by t old) (Some old) ≡ Some new → new.number ≡ old.number
 recalled-number t old new true becomes = let same : turned old (recalled_at old t) old.cargo ≡ new = cc in ap (λ (f : Fleet). f.number) (sym same)
 recalled-number t old new false becomes = let same : old ≡ new = cc in ap (λ (f : Fleet). f.number) (sym same)
+
+-- one that flies out afterwards did before
+pub recalled-out : (t : ℕ) (old new : Fleet) (b : Bool) → cond b (recalled_by t old) (Some old) ≡ Some new → new.outbound ≡ true → old ≡ new
+recalled-out t old new true becomes out =
+    let same : turned old (recalled_at old t) old.cargo ≡ new = cc in
+    absurd (never new.outbound out (ap (λ (f : Fleet). f.outbound) (sym same)))
+recalled-out t old new false becomes out = cc
+
+-- a new fleet arrives with those of its group
+joins-group : (setting : Setting) (u : State) (t : ℕ) (new a : Fleet) → KeepsRules setting u → IsNewFleet u t new → IsIn a u.fleets → IsGrouped u.fleets new → ArriveTogether a new
+joins-group setting u t new a fine is_new has (alone is) out_a out_new group =
+    let low = (fine.flying a has).grouped in
+    let earlier = fine.sent a has in
+    let number = is_new.number in
+    absurd (omega (arith, low, earlier, number, group, is))
+joins-group setting u t new a fine is_new has (along leader within out same target second) out_a out_new group =
+    let both = fine.together a leader has within out_a out (group ∙ sym same) in
+    (both.0 ∙ target, both.1 ∙ second)
 
 -- what a request makes of a state keeps the rules, with the next number
 pub fine-made : (setting : Setting) (t : ℕ) (u v : State) → KeepsRules setting u → Makes t u v → KeepsRules setting (record v { number = u.number + 1 })
@@ -152,6 +174,9 @@ fine-made setting t u v fine (ordered own new alike is_new is) =
       flying = λ fleet is. flying-still u state fleet stay (fine.flying fleet is);
       sent = λ fleet is. earlier-fleet setting u fleet fine is;
       apart = fine.apart;
+      rise = fine.rise;
+      together = fine.together;
+      few = fine.few;
     })
 fine-made setting t u v fine (sent own new stay is_new is) =
     let state = record (with_sent own new u) { number = u.number + 1 } in
@@ -169,6 +194,12 @@ fine-made setting t u v fine (sent own new stay is_new is) =
           let number : fleet.number ≡ u.number + 1 = ap (λ (f : Fleet). f.number) same ∙ is_new.number in omega (arith, number));
       apart = apart-append u.fleets new fine.apart (λ a has.
           ap (eqb a.number) is_new.number ∙ older a.number u.number (fine.sent a has));
+      rise = rise-append u.fleets new fine.rise (λ a has.
+          let low = fine.sent a has in
+          let number = is_new.number in
+          omega (arith, low, number));
+      together = together-append u.fleets new fine.together (λ a has. joins-group setting u t new a fine is_new has is_new.grouped);
+      few = few-append u.fleets new fine.few is_new.room;
     })
 fine-made setting t u v fine (recalled own number alike is) =
     let stay = all-stay u own alike in
@@ -191,4 +222,7 @@ fine-made setting t u v fine (recalled own number alike is) =
           let low = earlier-fleet setting u found.0 fine found.1 in
           omega (arith, same, low);
       apart = apart-changed (became_at number (recalled_by t)) u.fleets (λ old new becomes. recalled-number t old new (eqb old.number number) becomes) fine.apart;
+      rise = rise-changed (became_at number (recalled_by t)) u.fleets (λ old new becomes. recalled-number t old new (eqb old.number number) becomes) fine.rise;
+      together = together-changed (became_at number (recalled_by t)) u.fleets (λ old new becomes out. recalled-out t old new (eqb old.number number) becomes out) fine.together;
+      few = few-changed (became_at number (recalled_by t)) u.fleets (λ old new becomes out. recalled-out t old new (eqb old.number number) becomes out) fine.few;
     })

@@ -1,8 +1,7 @@
 -- What is seen of a cell after a change, by the change and by what was seen of that cell before.
-use Rattle.std.proofs.Common.{◌≡◌, ℕ, ◌+◌, ◌≤◌, inl, inr, Bool, true, false, not, cond, List, [], ◌∷◌, ◌||◌, Option, None, Some, length, sum, sum_by, if◌then◌else◌, arith, refl, ap, ◌∙◌, sym, subst}
+use Rattle.std.proofs.Common.{◌≡◌, ℕ, ◌+◌, ◌-◌, ◌≤◌, inl, inr, Bool, true, false, cond, List, [], ◌∷◌, Option, None, Some, length, sum, if◌then◌else◌, arith, refl, ap, ◌∙◌, sym, subst}
 use Rattle.std.proofs.Math.Path.{fun_ext}
 use Rattle.std.proofs.lemmas.List.Sums.{sum_by-cons}
-use Rattle.std.specs.List.{list_any}
 use Rattle.base_ids.specs.Cells.{same_cell, same_player}
 use Rattle.base_ids.specs.declared.player.Player.{Player}
 use Rattle.base_ids.specs.declared.cell_id.CellId.{CellId}
@@ -12,16 +11,19 @@ use Rattle.tick_model.specs.Changes.{Change, seen_after, write}
 use Rattle.catalog.specs.declared.mission.Mission.{Mission}
 use Rattle.catalog.specs.declared.mission.Mission.TheVariants.{Transport, Deploy, Harvest, Attack}
 use Rattle.reply_text.specs.declared.units.Units.{Units}
-use Rattle.tick_model.specs.Events.{Event, item_due, lands, Owes, effect, event_change, footprint, home}
-use Rattle.tick_model.specs.Flights.{arrived, joined_by, landed, landing, moored, supplied, turns}
-use Rattle.tick_model.specs.Rules.{IsFlying, IsIn, KeepsRules, is_once}
+use Rattle.tick_model.specs.Events.{Event, item_due, lands, fights, Owes, effect, event_change, battle_losses, footprint, home, seen_after_event, ships_lost, units_left, units_lost}
+use Rattle.tick_model.specs.Flights.{arrived, harvested, joined_by, landed, landing, moored, supplied, turns}
+use Rattle.tick_model.specs.Rules.{IsFlying, IsIn, KeepsRules}
 use Rattle.tick_model.specs.Universe.{of_planet, QueueClass, Yard, PlanetFields, Fleet, Item, Setting, State}
-use Rattle.tick_model.specs.Views.{holding, holding_at, queue_in, ships_of, units_held, units_left, units_of, view}
+use Rattle.tick_model.specs.Views.{View, holding, holding_at, nothing_seen, queue_in, ships_of, units_held, units_left as batches_left, units_of, view}
+use Rattle.tick_model.proofs.Battling.{after_battle, battle-home, battle-is, change-fought}
+use Rattle.tick_model.proofs.Casualties.{battle-counted}
 use Rattle.tick_model.proofs.Effects.{effect-is, event-counted, event-within, seen_of}
 use Rattle.tick_model.proofs.Footprints.{stays-within}
 use Rattle.tick_model.proofs.Landings.{after_landing, came_landed, flies-in, landing-belongs, landing-elsewhere, landing-is, landing-place, sum-changed, weight}
 use Rattle.tick_model.proofs.Nexts.{landing-listed}
-use Rattle.tick_model.proofs.Lists.{cell-is, not-true}
+pub use Rattle.tick_model.proofs.Sums.{sum-more}
+use Rattle.tick_model.proofs.Raids.{raid-in}
 use Rattle.tick_model.proofs.Writes.{IsWithin, fleets-written, holding-outside, own-inside, own-outside, planets-kept, queue-written, shown-own}
 
 pub written-seen : (list : List CellId) (cells reach : CellId → Bool) (change : Change) (state : State) (x : CellId) → IsWithin cells reach change state → cells x ≡ true
@@ -43,43 +45,6 @@ reached-seen list cells reach change state x within out =
     let fleets = fleets-written cells reach change state x within in
     let planets = planets-kept list cells reach change state within x in
     λ i. record { own = own i; queue = queue i; fleets = fleets i; planets = planets i; units = (view list (write cells change state) x).units }
-
--- Units that are ordered.
-
-same-sums : (cell : CellId) (f g : CellId → ℕ) (cells : List CellId) → list_any (same_cell cell) cells ≡ false → ((x : CellId) → same_cell cell x ≡ false → g x ≡ f x) → sum_by g cells ≡ sum_by f cells
-same-sums cell f g [] none same = refl
-same-sums cell f g (first ∷ cells) none same =
-    elim (test (same_cell cell first)) [
-      | inl here ↦ absurd (never true refl (sym (ap (λ b. b || list_any (same_cell cell) cells) here) ∙ none))
-      | inr apart ↦
-          (let rest : list_any (same_cell cell) cells ≡ false = sym (ap (λ b. b || list_any (same_cell cell) cells) apart) ∙ none in
-          sum_by-cons g first cells ∙ (λ i. same first apart i + same-sums cell f g cells rest same i) ∙ sym (sum_by-cons f first cells))
-    ]
-
-one-more : (a b c d : ℕ) → a ≡ b + d → a + c ≡ (b + c) + d
-one-more a b c d same = omega (arith, same)
-
-more-later : (a b c d : ℕ) → b ≡ c + d → a + b ≡ (a + c) + d
-more-later a b c d same = omega (arith, same)
-
--- a sum of which one part has so much more
-pub sum-more : (cell : CellId) (f g : CellId → ℕ) (d : ℕ) (cells : List CellId) → is_once cell cells ≡ true → ((x : CellId) → same_cell cell x ≡ false → g x ≡ f x) → g cell ≡ f cell + d
-    → sum_by g cells ≡ sum_by f cells + d
-sum-more cell f g d [] once same more = never false once refl
-sum-more cell f g d (first ∷ cells) once same more =
-    elim (test (same_cell cell first)) [
-      | inl here ↦
-          (let none : list_any (same_cell cell) cells ≡ false = not-true (list_any (same_cell cell) cells) (sym (ap (λ b. cond b (not (list_any (same_cell cell) cells)) (is_once cell cells)) here) ∙ once) in
-          let place = cell-is cell first here in
-          let now : g first ≡ f first + d = subst (λ x. g x ≡ f x + d) place more in
-          sum_by-cons g first cells ∙ (λ i. g first + same-sums cell f g cells none same i) ∙ one-more (g first) (f first) (sum_by f cells) d now ∙ ap (λ n. n + d) (sym (sum_by-cons f first cells)))
-      | inr apart ↦
-          (let later : is_once cell cells ≡ true = sym (ap (λ b. cond b (not (list_any (same_cell cell) cells)) (is_once cell cells)) apart) ∙ once in
-          sum_by-cons g first cells
-          ∙ (λ i. same first apart i + sum_by g cells)
-          ∙ more-later (f first) (sum_by g cells) (sum_by f cells) d (sum-more cell f g d cells later same more)
-          ∙ ap (λ n. n + d) (sym (sum_by-cons f first cells)))
-    ]
 
 -- Units are counted as before after each event.
 
@@ -113,20 +78,25 @@ moored-counts : (player : Player) (planet : PlanetFields) (fleet : Fleet) (batch
 unfolding moored
 moored-counts player planet fleet batches owner fits =
     let units = joined-sum planet.units fleet.ships fits in
-    ap (λ n. cond (same_player planet.owner player) (n + units_left batches) 0 + 0) units
-    ∙ more-held (same_player planet.owner player) (same_player fleet.owner player) (sum planet.units) (sum fleet.ships) (units_left batches) (ap (λ k. same_player k player) owner)
+    ap (λ n. cond (same_player planet.owner player) (n + batches_left batches) 0 + 0) units
+    ∙ more-held (same_player planet.owner player) (same_player fleet.owner player) (sum planet.units) (sum fleet.ships) (batches_left batches) (ap (λ k. same_player k player) owner)
 
 supplied-counts : (player : Player) (planet : PlanetFields) (fleet : Fleet) (batches : List Item)
     → units_held player (holding (of_planet (supplied planet fleet)) batches) ≡ units_held player (holding (of_planet planet) batches)
 unfolding supplied
 supplied-counts player planet fleet batches = refl
 
+harvested-counts : (player : Player) (planet : PlanetFields) (fleet : Fleet) (batches : List Item)
+    → units_held player (holding (of_planet (harvested planet fleet)) batches) ≡ units_held player (holding (of_planet planet) batches)
+unfolding harvested
+harvested-counts player planet fleet batches = refl
+
 arrived-counts : (mission : Mission) (player : Player) (planet : PlanetFields) (fleet : Fleet) (batches : List Item) → (mission ≡ Deploy → planet.owner ≡ fleet.owner) → length fleet.ships ≤ length planet.units
     → units_held player (holding (arrived mission fleet planet).own batches) + weight (ships_of player) (turns (arrived mission fleet planet).back fleet)
     ≡ units_held player (holding (of_planet planet) batches) + ships_of player fleet
 arrived-counts Transport player planet fleet batches own fits = ap (λ n. n + ships_of player fleet) (supplied-counts player planet fleet batches)
 arrived-counts Deploy player planet fleet batches own fits = moored-counts player planet fleet batches (own refl) fits
-arrived-counts Harvest player planet fleet batches own fits = refl
+arrived-counts Harvest player planet fleet batches own fits = ap (λ n. n + ships_of player fleet) (harvested-counts player planet fleet batches)
 arrived-counts Attack player planet fleet batches own fits = refl
 
 landed-counts : (b : Bool) (player : Player) (planet : PlanetFields) (fleet : Fleet) (batches : List Item) → (b ≡ true → fleet.mission ≡ Deploy → planet.owner ≡ fleet.owner) → (b ≡ false → planet.owner ≡ fleet.owner)
@@ -224,19 +194,44 @@ item-counted setting state class item later fine stands x =
     let fleets = ap (λ (s : State). s.fleets) (effect-is setting class item later state) in
     λ i. units_of setting.cells (fun_ext same i) (fleets i) x
 
--- after an event accounts have as many units as before
+-- after an event accounts have as many units as before, but for those that are lost in a battle
 pub event-units : (setting : Setting) (state : State) (event : Event) (x : CellId) → KeepsRules setting state → Owes (view setting.cells state (home event)) event
-    → (view setting.cells (effect setting event state) x).units ≡ (view setting.cells state x).units
+    → (view setting.cells (effect setting event state) x).units
+    ≡ units_left event (event_change setting.rules event (seen_of setting event state)) (view setting.cells state) x (view setting.cells state x).units
 event-units setting state (item_due class item later) x fine stands = item-counted setting state class item later fine stands x
 event-units setting state (lands fleet) x fine stands =
-    let flies = flies-in setting.cells state (home (lands fleet)) fleet stands in
+    let flies = flies-in setting.cells state (home (lands fleet)) fleet stands.0 in
     ap (λ s. units_of setting.cells (holding_at s) s.fleets x) (landing-is setting fleet state) ∙ landing-counted setting state fleet fine flies x
+event-units setting state (fights raid) x fine stands =
+    let is_in = raid-in setting state raid fine stands in
+    ap (λ s. units_of setting.cells (holding_at s) s.fleets x) (battle-is setting raid state is_in.planet is_in.there)
+    ∙ subst (λ c. units_of setting.cells (holding_at (after_battle setting raid state is_in.planet)) (after_battle setting raid state is_in.planet).fleets x
+    ≡ (view setting.cells state x).units - battle_losses raid c (view setting.cells state) x)
+    (sym (change-fought setting raid state is_in.planet is_in.there)) (battle-counted setting state raid fine is_in x)
+
+-- what is seen of a cell after an event: what its change makes of it, and the units that are left
+abbrev pub event_seen : Setting → Event → State → CellId → View
+event_seen setting event state x =
+    let seen = seen_of setting event state in
+    seen_after_event event (event_change setting.rules event seen) seen x (view setting.cells state x)
+
+units-shown : (setting : Setting) (state : State) (event : Event) (x : CellId) (change : Change) → footprint event x ≡ true
+    → units_left event change (view setting.cells state) x (view setting.cells state x).units ≡ units_left event change (seen_of setting event state) x (view setting.cells state x).units
+units-shown setting state (item_due class item later) x change has = refl
+units-shown setting state (lands fleet) x change has = refl
+units-shown setting state (fights raid) (Planet at) change has = refl
+units-shown setting state (fights raid) (Account player) change has =
+    let foot = footprint (fights raid) in
+    let shown_there = λ (y : CellId) (in_foot : foot y ≡ true). sym (ap (λ b. cond b (view setting.cells state y) nothing_seen) in_foot) in
+    (λ i. (view setting.cells state (Account player)).units
+    - (ships_lost player change.fleet (shown_there (Account player) has i).fleets
+    + units_lost player (shown_there (Planet raid.target) (battle-home raid) i).own (change.own (Planet raid.target))))
 
 -- so what is seen of a cell after an event is what the change makes of it
 pub event-seen : (setting : Setting) (state : State) (event : Event) (x : CellId) → KeepsRules setting state → Owes (view setting.cells state (home event)) event → footprint event x ≡ true
-    → view setting.cells (effect setting event state) x ≡ seen_after (event_change setting.rules event (seen_of setting event state)) x (view setting.cells state x)
+    → view setting.cells (effect setting event state) x ≡ event_seen setting event state x
 event-seen setting state event x fine stands has =
     let change = event_change setting.rules event (seen_of setting event state) in
-    let units = event-units setting state event x fine stands in
+    let units = event-units setting state event x fine stands ∙ units-shown setting state event x change has in
     written-seen setting.cells (footprint event) (footprint event) change state x (stays-within setting state event fine stands) has
     ∙ (λ i. record (seen_after change x (view setting.cells state x)) { units = units i })

@@ -54,6 +54,7 @@ flying-still old new fleet stay flying =
       kinds = flying.kinds;
       later = flying.later;
       deployed = flying.deployed;
+      grouped = flying.grouped;
     }
 
 pub keeps-owns : (setting : Setting) (own : CellId → Own) (state : State) → AllStay state.own own → KeepsRules setting state → KeepsRules setting (with_owns own state)
@@ -69,4 +70,7 @@ keeps-owns setting own state stay fine = record {
   flying = λ fleet is. flying-still state (with_owns own state) fleet stay (fine.flying fleet is);
   sent = fine.sent;
   apart = fine.apart;
+  rise = fine.rise;
+  together = fine.together;
+  few = fine.few;
 }

@@ -5,14 +5,14 @@ use Rattle.std.proofs.Math.Path.{fun_ext}
 use Rattle.std.proofs.lemmas.List.{append-nil}
 use Rattle.std.proofs.lemmas.List.Elements.{filter-append}
 use Rattle.std.proofs.lemmas.List.Sums.{sum_by-cons}
-use Rattle.std.specs.List.{filter_map}
+use Rattle.std.specs.List.{filter_map, list_any}
 use Rattle.base_ids.specs.Cells.{same_cell, same_player}
 use Rattle.base_ids.specs.declared.coord.Coord.{Coord}
 use Rattle.base_ids.specs.declared.player.Player.{Player}
 use Rattle.base_ids.specs.declared.cell_id.CellId.{CellId}
 use Rattle.base_ids.specs.declared.cell_id.CellId.TheVariants.{Account, Planet}
 use Rattle.laziness.proofs.Bringing.{test, never}
-use Rattle.tick_model.specs.Changes.{Change, new_fleet, new_owns, new_queue, no_change, owns, queue_after, sends_fleet, stays_queued, write}
+use Rattle.tick_model.specs.Changes.{Change, new_fleet, new_fleets, new_owns, new_queue, no_change, owns, queue_after, same_flight, sends_fleet, stays_queued, write}
 use Rattle.tick_model.specs.Rules.{IsIn}
 use Rattle.tick_model.specs.Universe.{Own, QueueClass, Yard, same_class, Item, Fleet, State}
 use Rattle.tick_model.specs.Views.{View, belongs, holding, holding_at, nothing_seen, place_held, planets_of, queue_in, ships_of, shown, stands_in, units_held, units_of, view}
@@ -126,7 +126,7 @@ nothing-more : (n : ℕ) → 0 + n ≡ n
 nothing-more n = omega arith
 
 -- of the fleets that belong to its account a player's own are all
-flown-own : (player : Player) (fleets : List Fleet) → sum_by (ships_of player) fleets ≡ sum_by (ships_of player) (filter (belongs (Account player)) fleets)
+pub flown-own : (player : Player) (fleets : List Fleet) → sum_by (ships_of player) fleets ≡ sum_by (ships_of player) (filter (belongs (Account player)) fleets)
 flown-own player [] = refl
 flown-own player (fleet ∷ fleets) =
     let rest = flown-own player fleets in
@@ -388,6 +388,14 @@ became_at number became fleet = if fleet.number == number then became fleet else
 abbrev pub with_fleet : (CellId → Own) → ℕ → (Fleet → Option Fleet) → State → State
 with_fleet own number became state = record state { own = own; fleets = filter_map (became_at number became) state.fleets }
 
+-- what becomes of each fleet, if those of some change or go
+abbrev pub became_in : List Fleet → (Fleet → Option Fleet) → Fleet → Option Fleet
+became_in fleets became fleet = if list_any (same_flight fleet) fleets then became fleet else Some fleet
+
+-- or each of some fleets changes or goes
+abbrev pub with_fleets : (CellId → Own) → List Fleet → (Fleet → Option Fleet) → State → State
+with_fleets own fleets became state = record state { own = own; fleets = filter_map (became_in fleets became) state.fleets }
+
 -- or one more fleet flies
 abbrev pub with_sent : (CellId → Own) → Fleet → State → State
 with_sent own fleet state = record state { own = own; fleets = state.fleets ++ fleet ∷ [] }
@@ -400,6 +408,16 @@ write-fleet cells own number became state =
       own = owns_after cells own state;
       items = all-items state.items i;
       fleets = append-nil (filter_map (became_at number became) state.fleets) i;
+    }
+
+pub write-fleets : (cells : CellId → Bool) (own : CellId → Own) (fleets : List Fleet) (became : Fleet → Option Fleet) (state : State)
+    → write cells (new_fleets own fleets became) state ≡ with_fleets (owns_after cells own state) fleets became state
+write-fleets cells own fleets became state =
+    λ i. record {
+      number = state.number;
+      own = owns_after cells own state;
+      items = all-items state.items i;
+      fleets = append-nil (filter_map (became_in fleets became) state.fleets) i;
     }
 
 pub write-sent : (cells : CellId → Bool) (own : CellId → Own) (fleet : Fleet) (state : State)
@@ -427,6 +445,25 @@ within-fleet cells reach own number became state owes shrinks all = record {
   shrinks = λ cell old new is here. shrinks_at cell became old new (eqb old.number number) (shrinks cell old new) is here;
   fleets = λ cell fleet is here out.
       let other : eqb fleet.number number ≡ false = fails (eqb fleet.number number) (λ same. never (reach cell) (all cell fleet is same here) out) in
+      ap (λ b. cond b (became fleet) (Some fleet)) other;
+  sent = λ cell fleet is here. absurd is;
+}
+
+-- or some do
+pub within-fleets : (cells reach : CellId → Bool) (own : CellId → Own) (fleets : List Fleet) (became : Fleet → Option Fleet) (state : State)
+    → OwnsWithin cells reach own (with_fleets (owns_after cells own state) fleets became state) state
+    → ((cell : CellId) (old new : Fleet) → became old ≡ Some new → belongs cell new ≡ true → belongs cell old ≡ true)
+    → ((cell : CellId) (fleet : Fleet) → IsIn fleet state.fleets → list_any (same_flight fleet) fleets ≡ true → belongs cell fleet ≡ true → reach cell ≡ true)
+    → IsWithin cells reach (new_fleets own fleets became) state
+within-fleets cells reach own fleets became state owes shrinks all = record {
+  among = owes.among;
+  queues = λ cell class again. absurd cc;
+  items = λ item is. absurd is;
+  owners = owes.owners;
+  counted = λ x has. subst (AreCountedIn reach state x) (sym (write-fleets cells own fleets became state)) (owes.counted x has);
+  shrinks = λ cell old new is here. shrinks_at cell became old new (list_any (same_flight old) fleets) (shrinks cell old new) is here;
+  fleets = λ cell fleet is here out.
+      let other : list_any (same_flight fleet) fleets ≡ false = fails (list_any (same_flight fleet) fleets) (λ same. never (reach cell) (all cell fleet is same here) out) in
       ap (λ b. cond b (became fleet) (Some fleet)) other;
   sent = λ cell fleet is here. absurd is;
 }

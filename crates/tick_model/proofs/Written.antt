@@ -1,11 +1,11 @@
 -- What a request makes of a state.
-use Rattle.std.proofs.Common.{◌≡◌, ℕ, ◌+◌, ◌<◌, ◌≤◌, ◌⊎◌, [], ◌∷◌, ◌++◌, inl, inr, Bool, true, false, cond, eqb, ◌&&◌, ◌||◌, Option, Some, ap, ◌∙◌, sym, subst}
-use Rattle.base_ids.specs.Cells.{same_cell}
+use Rattle.std.proofs.Common.{◌≡◌, ℕ, ◌+◌, ◌<◌, ◌≤◌, ◌⊎◌, [], ◌∷◌, ◌++◌, inl, inr, Bool, true, false, cond, eqb, ◌&&◌, ◌||◌, Option, Some, filter, length, arith, ap, ◌∙◌, sym, subst}
+use Rattle.base_ids.specs.Cells.{same_cell, same_coord}
 use Rattle.base_ids.specs.declared.coord.Coord.{Coord}
 use Rattle.base_ids.specs.declared.player.Player.{Player}
 use Rattle.base_ids.specs.declared.cell_id.CellId.{CellId}
 use Rattle.base_ids.specs.declared.cell_id.CellId.TheVariants.{Account, Planet}
-use Rattle.laziness.proofs.Bringing.{test}
+use Rattle.laziness.proofs.Bringing.{never, test}
 use Rattle.laziness.specs.Laws.{Covers, IsClosed}
 use Rattle.base_ids.specs.declared.fleet_number.FleetNumber.{FleetNumber}
 use Rattle.request_text.specs.declared.request.Request.TheVariants.{Recall}
@@ -13,6 +13,8 @@ use Rattle.request_text.specs.declared.entry.Entry.{Entry}
 use Rattle.tick_model.specs.Changes.{Change, new_fleet, new_queue, owns, sends_fleet, write}
 use Rattle.tick_model.specs.Flights.{recalled_at, turned}
 use Rattle.tick_model.specs.Game.{game, own_brings}
+use Rattle.tick_model.specs.declared.codes.TheConstants.{MOST_IN_GROUP}
+use Rattle.tick_model.specs.Raids.{companions, outbound_in}
 use Rattle.tick_model.specs.Requests.{Sight, asked, is_listed, names, outcome, queue_seen}
 use Rattle.tick_model.specs.Rules.{IsFlying, IsIn, IsPlaced, KeepsRules, queue_cell}
 use Rattle.tick_model.specs.Step.{sight_of}
@@ -23,9 +25,10 @@ use Rattle.tick_model.proofs.Brought.{brings-own, fleet-listed}
 use Rattle.tick_model.proofs.Effects.{put-stays}
 use Rattle.tick_model.proofs.Fleets.{IsFleetOf, apart-filter, out-flies}
 use Rattle.tick_model.proofs.Landings.{flies-in, turned-belongs}
-use Rattle.tick_model.proofs.Lists.{and-from, and-is, cell-from, cell-is, class-is, fleet-one, in-append, number-is, or-is, or-second, same_number}
-use Rattle.tick_model.proofs.Outcomes.{Changes, nothing, fields, joined, dispatched, called_back, AllSeenAlike, IsOrdered, IsSent, outcome-changes}
+use Rattle.tick_model.proofs.Lists.{and-from, and-is, cell-from, cell-is, class-is, fails, filter-alike, filter-both, filter-none, fleet-one, in-append, number-is, or-is, or-second, same_number}
+use Rattle.tick_model.proofs.Outcomes.{Changes, nothing, fields, joined, dispatched, called_back, AllSeenAlike, IsGrouped, alone, along, IsOrdered, IsSent, outcome-changes}
 use Rattle.tick_model.proofs.Owns.{IsAlike, Stays, alike-holding, alike-itself, alike-stays, owner_of, stays-itself, stays-owner}
+use Rattle.tick_model.proofs.Raids.{coord-from, target-belongs}
 use Rattle.tick_model.proofs.Queues.{queue-other, queued-in, stands-there}
 use Rattle.tick_model.proofs.Staying.{AllStay}
 use Rattle.tick_model.proofs.Writes.{IsWithin, OwnsWithin, owns_after, shown-own, with_fleet, with_owns, with_queue, with_sent, within-fleet, within-owns, within-queue, within-sent, write-fleet, write-nothing, write-owns, write-queue, write-sent}
@@ -47,6 +50,8 @@ pub record IsNewFleet (state : State) (moment : ℕ) (fleet : Fleet) : Type 0 wh
   pub number : fleet.number ≡ state.number + 1
   pub flying : IsFlying state fleet
   pub runs : moment < fleet.second
+  pub grouped : IsGrouped state.fleets fleet
+  pub room : length (outbound_in fleet.group state.fleets) < MOST_IN_GROUP
 
 -- what becomes of a fleet that is recalled at a moment
 abbrev pub recalled_by : ℕ → Fleet → Option Fleet
@@ -165,6 +170,27 @@ counted-after setting a t u own item alike new x has =
           subst (λ k. cells (Account k) ≡ true) (sym there.owner ∙ owner_is) there.caller))
     ]
 
+-- a fleet of a group flies with those of its target, if all of the group that fly out do
+goes-flies : (f : Fleet) (at : Coord) (group : ℕ) → (f.outbound ≡ true → f.group ≡ group → f.target ≡ at)
+    → (belongs (Planet at) f && (f.outbound && same_coord f.target at && eqb f.group group)) ≡ (f.outbound && eqb f.group group)
+goes-flies f at group there =
+    elim (test (f.outbound && eqb f.group group)) [
+      | inl flies ↦
+          (let both = and-is f.outbound (eqb f.group group) flies in
+          let target = there both.0 (number-is f.group group both.1) in
+          let here = coord-from f.target at target in
+          and-from (belongs (Planet at) f) (f.outbound && same_coord f.target at && eqb f.group group) (target-belongs at f both.0 target)
+          (and-from (f.outbound && same_coord f.target at) (eqb f.group group) (and-from f.outbound (same_coord f.target at) both.0 here) both.1)
+          ∙ sym flies)
+      | inr not_so ↦
+          fails (belongs (Planet at) f && (f.outbound && same_coord f.target at && eqb f.group group)) (λ passes.
+          let goes = (and-is (belongs (Planet at) f) (f.outbound && same_coord f.target at && eqb f.group group) passes).1 in
+          let numbered = and-is (f.outbound && same_coord f.target at) (eqb f.group group) goes in
+          let out = (and-is f.outbound (same_coord f.target at) numbered.0).0 in
+          never (f.outbound && eqb f.group group) (and-from f.outbound (eqb f.group group) out numbered.1) not_so)
+          ∙ sym not_so
+    ]
+
 -- Of a set that is ready a request's change stays within the cells that it asks for, and reaches no further than the set.
 
 -- a request's change is within the cells that it asks for, and makes no more of a state
@@ -232,6 +258,52 @@ module _ (setting : Setting) (a : Entry) (t : ℕ) (S : CellId → Bool) (u : St
           | inr out ↦ subst (λ o. Stays (u.own x) o) (sym (ap (λ b. cond b (own x) (u.own x)) out)) (stays-itself (u.own x))
         ]
 
+    -- its group flies
+    among-flying : IsGrouped (shown cells (view setting.cells u) (Planet fleet.target)).fleets fleet → IsGrouped u.fleets fleet
+    among-flying (alone is) = alone is
+    among-flying (along leader within out group target second) =
+        let seen = subst (λ (v : View). IsIn leader v.fleets) (shown-there cells (view setting.cells u) (Planet fleet.target) target-there.0) within in
+        along leader (flies-in setting.cells u (Planet fleet.target) leader seen) out group target second
+
+    group-at : IsGrouped u.fleets fleet → fleet.group ≤ fleet.number
+    group-at (alone is) = omega (arith, is)
+    group-at (along leader within out group target second) =
+        let low = (fine.flying leader within).grouped in
+        let earlier = fine.sent leader within in
+        let number : fleet.number ≡ u.number + 1 = new.number in
+        omega (arith, low, earlier, group, number)
+
+    group-least : fleet.group ≤ fleet.number
+    group-least = group-at (among-flying new.grouped)
+
+    -- all of its group that fly out are those that its target shows
+    companions-all : (leader : Fleet) → IsIn leader u.fleets → leader.outbound ≡ true → leader.group ≡ fleet.group → leader.target ≡ fleet.target
+        → companions fleet.target fleet.group (filter (belongs (Planet fleet.target)) u.fleets) ≡ outbound_in fleet.group u.fleets
+    companions-all leader within out group target =
+        let goes = λ (f : Fleet). f.outbound && same_coord f.target fleet.target && eqb f.group fleet.group in
+        let flies = λ (f : Fleet). f.outbound && eqb f.group fleet.group in
+        filter-both goes (belongs (Planet fleet.target)) u.fleets
+        ∙ filter-alike (λ (f : Fleet). belongs (Planet fleet.target) f && goes f) flies u.fleets (λ f is.
+        goes-flies f fleet.target fleet.group (λ flown same.
+        (fine.together f leader is within flown out (same ∙ sym group)).0 ∙ target))
+
+    none-grouped : fleet.group ≡ fleet.number → outbound_in fleet.group u.fleets ≡ []
+    none-grouped same =
+        filter-none (λ (f : Fleet). f.outbound && eqb f.group fleet.group) u.fleets (λ f is. fails (f.outbound && eqb f.group fleet.group) (λ passes.
+        let named = number-is f.group fleet.group (and-is f.outbound (eqb f.group fleet.group) passes).1 in
+        let low = (fine.flying f is).grouped in
+        let earlier = fine.sent f is in
+        let number : fleet.number ≡ u.number + 1 = new.number in
+        omega (arith, named, low, earlier, number, same)))
+
+    group-room : IsGrouped u.fleets fleet → (fleet.group ≡ fleet.number) ⊎ (length (companions fleet.target fleet.group (shown cells (view setting.cells u) (Planet fleet.target)).fleets) < MOST_IN_GROUP)
+        → length (outbound_in fleet.group u.fleets) < MOST_IN_GROUP
+    group-room grouped (inl same) = let none : length (outbound_in fleet.group u.fleets) ≡ 0 = ap length (none-grouped same) in omega (arith, none)
+    group-room (alone is) (inr room) = let none : length (outbound_in fleet.group u.fleets) ≡ 0 = ap length (none-grouped is) in omega (arith, none)
+    group-room (along leader within out group target second) (inr room) =
+        let seen = shown-there cells (view setting.cells u) (Planet fleet.target) target-there.0 in
+        subst (λ fleets. length fleets < MOST_IN_GROUP) (ap (λ (v : View). companions fleet.target fleet.group v.fleets) seen ∙ companions-all leader within out group target) room
+
     new-flies : IsFlying u fleet
     new-flies = record {
       from = new.planet;
@@ -243,6 +315,7 @@ module _ (setting : Setting) (a : Entry) (t : ℕ) (S : CellId → Bool) (u : St
       kinds = new.kinds;
       later = λ out. new.later;
       deployed = new.is_deployed;
+      grouped = group-least;
     }
 
     -- all its cells are in the set
@@ -287,7 +360,7 @@ module _ (setting : Setting) (a : Entry) (t : ℕ) (S : CellId → Bool) (u : St
         owners = λ x has. stays-owner (owns (shown cells (view setting.cells u)) x) (own x) (departs-stays x) ∙ ap owner_of (shown-own setting.cells cells u x has);
         counted = λ x has. either-reached cells S u (with_sent (owns_after cells own u) fleet u) x covers (departs-counted x);
       }) flies-inside;
-      makes = sent (owns_after cells own u) fleet departs-after (record { number = new.number; flying = new-flies; runs = new.runs }) (write-sent cells own fleet u);
+      makes = sent (owns_after cells own u) fleet departs-after (record { number = new.number; flying = new-flies; runs = new.runs; grouped = among-flying new.grouped; room = group-room (among-flying new.grouped) new.room }) (write-sent cells own fleet u);
     }
 
   -- A fleet that is recalled.

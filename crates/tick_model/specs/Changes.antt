@@ -1,5 +1,6 @@
 -- What an event or a request changes.
 use Rattle.std.specs.Prelude.{ℕ, List, [], ◌∷◌, ◌++◌, Bool, false, not, ◌&&◌, ◌==◌, Option, Some, filter, filter_map, if◌then◌else◌}
+use Rattle.std.specs.List.{list_any}
 use Rattle.base_ids.specs.Cells.{same_cell}
 use Rattle.base_ids.specs.declared.cell_id.CellId.{CellId}
 use Rattle.tick_model.specs.Universe.{Own, QueueClass, same_class, Item, Fleet, State}
@@ -30,9 +31,18 @@ new_owns own = record { own = own; requeued = λ _ _. false; items = []; fleet =
 abbrev pub new_queue : (CellId → Own) → CellId → QueueClass → List Item → Change
 new_queue own cell class items = record (new_owns own) { requeued = λ x c. same_cell cell x && same_class class c; items = items }
 
+-- two fleets bear the same number
+abbrev pub same_flight : Fleet → Fleet → Bool
+same_flight a b = a.number == b.number
+
 -- besides, the fleet of a number changes, or goes
 abbrev pub new_fleet : (CellId → Own) → ℕ → (Fleet → Option Fleet) → Change
 new_fleet own number became = record (new_owns own) { fleet = λ fleet. if fleet.number == number then became fleet else Some fleet }
+
+-- besides, each of these fleets changes, or goes
+abbrev pub new_fleets : (CellId → Own) → List Fleet → (Fleet → Option Fleet) → Change
+new_fleets own fleets became =
+    record (new_owns own) { fleet = λ fleet. if list_any (same_flight fleet) fleets then became fleet else Some fleet }
 
 -- besides, a fleet is sent
 abbrev pub sends_fleet : (CellId → Own) → Fleet → Change

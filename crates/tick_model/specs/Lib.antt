@@ -6,6 +6,8 @@ pub mod Changes
 pub mod Researches
 pub mod Yards
 pub mod Flights
+pub mod Raids
+pub mod Battles
 pub mod Events
 pub mod Refusals
 pub mod Lines

@@ -10,8 +10,8 @@ use Rattle.catalog.specs.Technologies.{level_in}
 use Rattle.catalog.specs.declared.kind.Kind.{Kind}
 use Rattle.catalog.specs.declared.ships.TheConstants.{UNITS}
 use Rattle.flight.specs.Freight.{capacity_of}
-use Rattle.reply_text.specs.declared.units.Units.{Units}
 use Rattle.tick_model.specs.declared.codes.TheConstants.{MOST_QUEUED}
+use Rattle.tick_model.specs.Flights.{cargo_units}
 use Rattle.tick_model.specs.Lines.{own_fleets, slots_of}
 use Rattle.tick_model.specs.Production.{level_of}
 use Rattle.tick_model.specs.Refusals.{is_dome, queued, used_fields}
@@ -34,10 +34,6 @@ pub record KeepsLevels (planet : PlanetFields) (queue : QueueClass → List Item
 -- no technology rises above its highest level, even if all that is queued is researched
 abbrev pub KeepsTechs : AccountFields → List Item → Type 0
 KeepsTechs account items = (kind : Kind) → is_technology kind ≡ true → level_in account.techs.n kind + queued kind items ≤ level_cap_of kind
-
--- the units of a cargo
-abbrev pub cargo_units : Units → ℕ
-cargo_units cargo = cargo.metal + cargo.crystal + cargo.deuterium
 
 -- a fleet has ships, and no more cargo than they carry
 abbrev pub IsLoaded : Fleet → Type 0

@@ -1,5 +1,5 @@
 -- What comes of each request, by what is seen of the cells that it asks for. Rules: docs/RULES.md, "Requests".
-use Rattle.std.specs.Prelude.{◌≡◌, ℕ, ◌+◌, ◌==◌, List, [], ◌∷◌, ◌++◌, Bool, true, false, ◌&&◌, ◌||◌, Option, None, Some, length, slice_set, if◌then◌else◌}
+use Rattle.std.specs.Prelude.{ℕ, ◌+◌, ◌==◌, List, [], ◌∷◌, ◌++◌, Bool, true, false, ◌&&◌, ◌||◌, Option, None, Some, length, slice_set, if◌then◌else◌}
 use Rattle.std.specs.List.{list_any}
 use Rattle.base_ids.specs.Cells.{same_cell, same_player}
 use Rattle.base_ids.specs.declared.coord.Coord.{Coord}
@@ -12,44 +12,24 @@ use Rattle.catalog.specs.declared.classes.TheConstants.{WORKS}
 use Rattle.catalog.specs.declared.amounts.Amounts.{Amounts}
 use Rattle.catalog.specs.declared.kind.Kind.{Kind}
 use Rattle.catalog.specs.declared.mission.Mission.{Mission}
-use Rattle.catalog.specs.declared.mission.Mission.TheVariants.{Transport, Deploy, Harvest, Attack}
+use Rattle.catalog.specs.declared.mission.Mission.TheVariants.{Attack}
 use Rattle.request_text.specs.declared.request.Request.{Request}
 use Rattle.request_text.specs.declared.request.Request.TheVariants.{Planet as PlanetOf, Account as AccountOf, Fleets, System as SystemOf, Build, Research, Yard as YardOf, Set, Send, Join, Recall}
 use Rattle.reply_text.specs.FleetLines.{at_line}
 use Rattle.reply_text.specs.OrderLines.{arrives_line, back_line, starts_line, waits_line}
-use Rattle.tick_model.specs.declared.codes.TheConstants.{NO_PLAYER, NO_PLANET, NO_FLEET, NOT_OUTBOUND, NOT_YOURS, NOT_BUILT}
+use Rattle.tick_model.specs.declared.codes.TheConstants.{NO_PLAYER, NO_PLANET, NO_FLEET, NOT_OUTBOUND, NOT_YOURS}
 use Rattle.tick_model.specs.declared.rules.Rules.{Rules}
 use Rattle.tick_model.specs.Buildings.{pays, started}
 use Rattle.tick_model.specs.Changes.{Change, new_fleet, new_owns, new_queue, no_change, owns, put_own, sends_fleet}
 use Rattle.tick_model.specs.Flights.{recalled_at, turned}
 use Rattle.tick_model.specs.Lines.{account_text, fleet_lines, own_fleets, planet_text}
+use Rattle.tick_model.specs.Raids.{companions, raiders}
 use Rattle.tick_model.specs.Refusals.{build_refusal, research_refusal, yard_refusal}
 use Rattle.tick_model.specs.Researches.{pays_research, started_research}
-use Rattle.tick_model.specs.Sending.{Errand, belongs_out, departed, fleet_of, fuel_of, launched, send_refusal}
+use Rattle.tick_model.specs.Sending.{Errand, arrival_of, belongs_out, departed, fleet_of, fuel_of, join_refusal, launched, send_refusal, with_group}
 use Rattle.tick_model.specs.Universe.{Own, of_nothing, of_account, of_planet, AccountFields, QueueClass, Buildings, Researches, Yard, Fleet, Item, PlanetFields}
 use Rattle.tick_model.specs.Views.{View}
 use Rattle.tick_model.specs.Yards.{begun, pays_batch}
-
--- the missions that are flown today
-abbrev pub is_flown : Mission → Bool
-is_flown Transport = true
-is_flown Deploy = true
-is_flown Harvest = false
-is_flown Attack = false
-
--- the forms that are answered today; a line of any other form is no request yet
-abbrev pub IsBuilt : Request → Type 0
-IsBuilt (PlanetOf at) = Unit {0}
-IsBuilt AccountOf = Unit {0}
-IsBuilt Fleets = Unit {0}
-IsBuilt (SystemOf system) = Unit {0}
-IsBuilt (Send from to mission setting ships cargo) = is_flown mission ≡ true
-IsBuilt (Recall fleet) = Unit {0}
-IsBuilt (Build at building) = Unit {0}
-IsBuilt (Research at technology) = Unit {0}
-IsBuilt (YardOf at unit count) = Unit {0}
-IsBuilt (Set at work tenths) = Unit {0}
-IsBuilt _ = ⊥
 
 -- whether a cell is there at all
 abbrev pub is_there : Own → Bool
@@ -72,8 +52,10 @@ names seen player (Research at technology) cell = same_cell (Planet at) cell
 names seen player (YardOf at unit count) cell = same_cell (Planet at) cell
 names seen player (Set at work tenths) cell = same_cell (Planet at) cell
 names seen player (Send from to mission setting ships cargo) cell = same_cell (Planet from) cell || same_cell (Planet to) cell
+names seen player (Join fleet from to setting ships cargo) cell = same_cell (Planet from) cell || same_cell (Planet to) cell
 names seen player (Recall fleet) cell = belongs_out cell (fleet_of player fleet.f (seen (Account player)).fleets)
-names seen player _ cell = false
+names seen player AccountOf cell = false
+names seen player Fleets cell = false
 
 -- a cell is in a directory
 abbrev pub is_listed : List CellId → CellId → Bool
@@ -249,6 +231,30 @@ sends_on sight player errand account planet =
     let fleets = length (own_fleets player (sight.seen (Account player)).fleets) in
     unless sight (send_refusal player account fleets planet (own_seen sight (Planet errand.to)) errand) (sends sight player errand account planet)
 
+-- the fleets that fly to a place in a group, as the place shows them
+abbrev pub companions_seen : Sight → Coord → ℕ → List Fleet
+companions_seen sight at group = companions at group (sight.seen (Planet at)).fleets
+
+abbrev pub raiders_seen : Sight → Coord → ℕ → List Fleet
+raiders_seen sight at group = raiders at group (sight.seen (Planet at)).fleets
+
+-- a fleet joins a raid: it leaves as any other, and arrives with the raid
+abbrev pub joins_raid : Sight → Player → ℕ → Errand → AccountFields → PlanetFields → Outcome
+joins_raid sight player group errand account planet =
+    let second = arrival_of (raiders_seen sight errand.to group) in
+    let fleet = launched sight.rules.speed sight.number sight.moment player account (owner_there player (own_seen sight (Planet errand.to))) errand in
+    granted (arrives_line second (fuel_of account errand))
+    (sends_fleet (with_planet sight errand.from (departed account planet errand)) (with_group group second fleet))
+
+-- `join GROUP A B SETTING SHIPS CARGO`
+abbrev pub joins_on : Sight → Player → ℕ → Errand → AccountFields → PlanetFields → Outcome
+joins_on sight player group errand account planet =
+    let fleets = length (own_fleets player (sight.seen (Account player)).fleets) in
+    let raid = raiders_seen sight errand.to group in
+    let companions = length (companions_seen sight errand.to group) in
+    unless sight (join_refusal sight.rules.speed sight.moment player account fleets planet (own_seen sight (Planet errand.to)) errand raid companions)
+    (joins_raid sight player group errand account planet)
+
 -- `recall F`: the caller's fleet turns back, with what it has. It is refused with 13 if the caller has no such fleet, and 14 if it
 -- is on its way back.
 abbrev pub recalls : Sight → ℕ → Option Fleet → Outcome
@@ -278,8 +284,7 @@ errand_of from to mission setting ships cargo =
       cargo = record { metal = cargo.m; crystal = cargo.c; deuterium = cargo.d };
     }
 
--- What comes of a request. No line of a form that isn't built yet makes an entry; since the definition is of every request, such a
--- form is refused here with a code that no text shows.
+-- what comes of a request
 abbrev pub outcome : Sight → Player → Request → Outcome
 outcome sight player (PlanetOf at) = at_own sight player at (shows sight at)
 outcome sight player AccountOf = on_account sight (own_seen sight (Account player)) (tells sight player)
@@ -290,8 +295,7 @@ outcome sight player (Set at work tenths) = at_own sight player at (sets sight a
 outcome sight player Fleets = on_account sight (own_seen sight (Account player)) (tells_fleets sight player)
 outcome sight player (SystemOf system) = on_account sight (own_seen sight (Account player)) (tells_system sight system)
 outcome sight player (Send from to mission setting ships cargo) =
-    if is_flown mission
-    then at_own sight player from (sends_on sight player (errand_of from to mission setting.p ships.n cargo))
-    else refused sight NOT_BUILT
+    at_own sight player from (sends_on sight player (errand_of from to mission setting.p ships.n cargo))
 outcome sight player (Recall fleet) = on_account sight (own_seen sight (Account player)) (recalls_own sight player fleet.f)
-outcome sight player (Join fleet from to setting ships cargo) = refused sight NOT_BUILT
+outcome sight player (Join group from to setting ships cargo) =
+    at_own sight player from (joins_on sight player group.f (errand_of from to Attack setting.p ships.n cargo))

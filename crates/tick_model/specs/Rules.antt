@@ -1,5 +1,5 @@
 -- The rules that every state of a universe keeps.
-use Rattle.std.specs.Prelude.{◌≡◌, ◌≤◌, ◌<◌, ◌⊎◌, ◌==◌, List, [], ◌∷◌, Bool, true, false, not, ◌&&◌, length, if◌then◌else◌}
+use Rattle.std.specs.Prelude.{◌≡◌, ℕ, ◌≤◌, ◌<◌, ◌⊎◌, ◌==◌, List, [], ◌∷◌, Bool, true, false, not, ◌&&◌, length, if◌then◌else◌}
 use Rattle.std.specs.List.{Contains, list_any}
 use Rattle.base_ids.specs.Cells.{same_cell}
 use Rattle.base_ids.specs.declared.coord.Coord.{Coord}
@@ -10,6 +10,9 @@ use Rattle.catalog.specs.Kinds.{place_in}
 use Rattle.catalog.specs.declared.classes.TheConstants.{UNIT_KINDS}
 use Rattle.catalog.specs.declared.mission.Mission.TheVariants.{Deploy}
 use Rattle.catalog.specs.declared.ships.TheConstants.{SHIPS}
+pub use Rattle.tick_model.specs.Changes.{same_flight}
+use Rattle.tick_model.specs.declared.codes.TheConstants.{MOST_IN_GROUP}
+use Rattle.tick_model.specs.Raids.{outbound_in}
 use Rattle.tick_model.specs.Requests.{is_there}
 use Rattle.tick_model.specs.Universe.{of_planet, PlanetFields, QueueClass, Buildings, Researches, Yard, Item, Fleet, same_class, Setting, State}
 use Rattle.tick_model.specs.Views.{queue_in}
@@ -48,7 +51,7 @@ pub record IsPlaced (state : State) (item : Item) : Type 0 where
   pub batch : IsBatch item.class item
 
 -- A fleet flies between two planets, the origin its owner's, and has a count for each kind of ships. On its way out it arrives later
--- than it was sent; and it is deployed to a planet of its owner alone.
+-- than it was sent; and it is deployed to a planet of its owner alone. Its group is that of a request that came no later than its own.
 pub record IsFlying (state : State) (fleet : Fleet) : Type 0 where
   pub from : PlanetFields
   pub leaves : state.own (Planet fleet.origin) ≡ of_planet from
@@ -59,15 +62,24 @@ pub record IsFlying (state : State) (fleet : Fleet) : Type 0 where
   pub kinds : length fleet.ships ≡ length SHIPS
   pub later : fleet.outbound ≡ true → fleet.launch < fleet.second
   pub deployed : fleet.mission ≡ Deploy → fleet.target_owner ≡ fleet.owner
+  pub grouped : fleet.group ≤ fleet.number
 
--- two fleets bear the same number
-abbrev pub same_flight : Fleet → Fleet → Bool
-same_flight a b = a.number == b.number
-
--- no two fleets do
+-- no two fleets bear the same number
 abbrev pub AreApart : List Fleet → Type 0
 AreApart [] = Unit {0}
 AreApart (fleet ∷ later) = (list_any (same_flight fleet) later ≡ false) × AreApart later
+
+-- the numbers of fleets rise
+abbrev pub DoRise : List Fleet → Type 0
+DoRise [] = Unit {0}
+DoRise (fleet ∷ later) = ((other : Fleet) → IsIn other later → fleet.number < other.number) × DoRise later
+
+-- if two fleets fly out in one group, they arrive at one place in one second
+abbrev pub ArriveTogether : Fleet → Fleet → Type 0
+ArriveTogether a b = a.outbound ≡ true → b.outbound ≡ true → a.group ≡ b.group → (a.target ≡ b.target) × (a.second ≡ b.second)
+
+abbrev pub AreTogether : List Fleet → Type 0
+AreTogether fleets = (a b : Fleet) → IsIn a fleets → IsIn b fleets → ArriveTogether a b
 
 -- a cell is named once
 abbrev pub is_once : CellId → List CellId → Bool
@@ -77,7 +89,8 @@ is_once cell (first ∷ cells) = if same_cell cell first then not (list_any (sam
 -- The directory lists every cell that is there, and the account of each planet's owner, and none twice; and a planet counts units of all kinds. Each
 -- item is in the queue of the right cell, and bears the number of a request that has come, no two of one class the same. The
 -- units of a yard's first batch take a second or more. Each fleet flies between planets and bears the number of a request that has
--- come, no two the same.
+-- come, no two the same; their numbers rise, and those that fly out in one group arrive
+-- together and are few.
 pub record KeepsRules (setting : Setting) (state : State) : Type 0 where
   pub listed : (cell : CellId) → is_there (state.own cell) ≡ true → Contains setting.cells cell
   pub once : (cell : CellId) → Contains setting.cells cell → is_once cell setting.cells ≡ true
@@ -90,3 +103,6 @@ pub record KeepsRules (setting : Setting) (state : State) : Type 0 where
   pub flying : (fleet : Fleet) → IsIn fleet state.fleets → IsFlying state fleet
   pub sent : (fleet : Fleet) → IsIn fleet state.fleets → fleet.number ≤ state.number
   pub apart : AreApart state.fleets
+  pub rise : DoRise state.fleets
+  pub together : AreTogether state.fleets
+  pub few : (group : ℕ) → length (outbound_in group state.fleets) ≤ MOST_IN_GROUP

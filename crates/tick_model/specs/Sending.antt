@@ -1,5 +1,5 @@
 -- How a fleet is sent and recalled. Rules: docs/RULES.md, "Fleets" and "Refusals".
-use Rattle.std.specs.Prelude.{ℕ, ◌+◌, List, [], ◌∷◌, Bool, true, false, not, nat_le, ◌==◌, ◌&&◌, Option, None, Some, slice_index, if◌then◌else◌}
+use Rattle.std.specs.Prelude.{ℕ, ◌+◌, List, [], ◌∷◌, Bool, true, false, not, nat_le, nat_lt, ◌==◌, ◌&&◌, Option, None, Some, length, slice_index, if◌then◌else◌}
 use Rattle.base_ids.specs.Cells.{same_cell, same_player}
 use Rattle.base_ids.specs.declared.cell_id.CellId.{CellId}
 use Rattle.base_ids.specs.declared.cell_id.CellId.TheVariants.{Planet}
@@ -16,7 +16,7 @@ use Rattle.flight.specs.Freight.{capacity_of, flight_fuel}
 use Rattle.flight.specs.Speeds.{fleet_speed}
 use Rattle.flight.specs.Times.{flight_seconds}
 use Rattle.reply_text.specs.declared.units.Units.{Units}
-use Rattle.tick_model.specs.declared.codes.TheConstants.{NO_SHIPS, BAD_MISSION, NO_SLOT, NO_ROOM, POOR}
+use Rattle.tick_model.specs.declared.codes.TheConstants.{NO_FLEET, GROUP_FULL, MOST_IN_GROUP, NO_SHIPS, BAD_MISSION, NO_SLOT, TOO_LATE, NO_ROOM, POOR}
 use Rattle.tick_model.specs.Buildings.{can_pay, paid}
 use Rattle.tick_model.specs.Flights.{left_by}
 use Rattle.tick_model.specs.Lines.{slots_of}
@@ -94,6 +94,31 @@ send_refusal player account fleets planet target errand =
     ∷ []
     )
 
+-- the second at which a raid arrives
+abbrev pub arrival_of : List Fleet → ℕ
+arrival_of [] = 0
+arrival_of (fleet ∷ fleets) = fleet.second
+
+-- a fleet that leaves at a moment would arrive later than a raid
+abbrev pub is_late : ℕ → ℕ → AccountFields → Errand → List Fleet → Bool
+is_late speed moment account errand raid = nat_lt (arrival_of raid) (moment + seconds_to speed account errand)
+
+-- `join GROUP A B SETTING SHIPS CARGO` at a moment, from the caller's own planet, by a caller who has so many fleets: these
+-- fleets of the group fly to B to attack it, and all in all there are so many that fly there in it
+unfoldable pub join_refusal : ℕ → ℕ → Player → AccountFields → ℕ → PlanetFields → Own → Errand → List Fleet → ℕ → ℕ
+join_refusal speed moment player account fleets planet target errand raid companions =
+    first_refusal (
+    record { code = NO_FLEET; holds = nat_le (length raid) 0 }
+    ∷ record { code = GROUP_FULL; holds = nat_le MOST_IN_GROUP companions }
+    ∷ record { code = NO_SHIPS; holds = not (has_ships planet.units errand.ships) }
+    ∷ record { code = BAD_MISSION; holds = not (can_go player errand target) }
+    ∷ record { code = NO_SLOT; holds = nat_le (slots_of account) fleets }
+    ∷ record { code = TOO_LATE; holds = is_late speed moment account errand raid }
+    ∷ record { code = NO_ROOM; holds = not (has_room account errand) }
+    ∷ record { code = POOR; holds = not (can_pay planet.stock (load_of account errand)) }
+    ∷ []
+    )
+
 -- the planet that a fleet has left
 unfoldable pub departed : AccountFields → PlanetFields → Errand → PlanetFields
 departed account planet errand =
@@ -117,3 +142,7 @@ launched speed number moment player account target_owner errand =
       cargo = errand.cargo;
       ships = errand.ships;
     }
+
+-- a fleet that flies in a group, and arrives with it
+abbrev pub with_group : ℕ → ℕ → Fleet → Fleet
+with_group group second fleet = record fleet { group = group; second = second }

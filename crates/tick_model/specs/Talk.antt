@@ -8,13 +8,11 @@ use Rattle.tick_model.specs.Universe.{Universe}
 use Rattle.reply_text.specs.Heads.{refused_text, text}
 use Rattle.reply_text.specs.declared.reply.Refused.TheVariants.{Memory}
 use Rattle.reply_text.specs.Words.{line}
-use Rattle.tick_model.specs.Requests.{IsBuilt}
 use Rattle.tick_model.specs.World.{reply}
 
--- a line of a script asks for something: it spells a call, and the form of its request is built
-pub record AsksFor (line : List ℕ) (call : Call) : Type 0 where
-  pub spells : Spells true line call
-  pub built : IsBuilt call.req
+-- a line of a script asks for something: it spells a call
+abbrev pub AsksFor : List ℕ → Call → Type 0
+AsksFor line call = Spells true line call
 
 -- a line asks for nothing
 abbrev pub AsksNothing : List ℕ → Type 0

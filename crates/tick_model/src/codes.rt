@@ -40,11 +40,17 @@ pub const NO_FLEET: u8 = 13;
 /// The fleet is on its way back.
 pub const NOT_OUTBOUND: u8 = 14;
 
+/// A fleet that is to join a group would arrive later than the group.
+pub const TOO_LATE: u8 = 15;
+
+/// The group has as many fleets that fly out as it may have.
+pub const GROUP_FULL: u8 = 16;
+
 /// The account's units, those that are ordered included, would be more than `catalog::UNITS`.
 pub const CEILING: u8 = 17;
 
-/// The form of the request isn't played yet. No text shows this code, since no line asks for such a form.
-pub const NOT_BUILT: u8 = 255;
-
 /// The most items of a queue, the one that runs included.
 pub const MOST_QUEUED: usize = 5;
+
+/// The most fleets that fly out in one group.
+pub const MOST_IN_GROUP: usize = 8;

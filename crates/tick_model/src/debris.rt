@@ -4,3 +4,6 @@ pub struct Debris {
     pub metal: u64,
     pub crystal: u64,
 }
+
+/// How much debris a recycler takes up at most, in units.
+pub const RECYCLER_ROOM: u64 = 20_000;

@@ -16,7 +16,7 @@ fn pass_second(alloc: Global, rules: &Rules, cells: &Held, second: u64) -> Resul
     let now = second + 1;
     let mut later = cells.gained(alloc, rules, now)?;
     'events: while let Some(what) = later.first_due(now) {
-        apply(&mut later, rules, what)?;
+        apply(alloc, &mut later, rules, what)?;
     }
     Ok(later)
 }

@@ -57,10 +57,16 @@ level 1:1:5 shipyard 4
 level 1:1:6 shipyard 1
 level 1:1:6 lab 1
 units 1:1:1 smallcargo 30
+units 1:1:1 lightfighter 90
+units 1:1:1 recycler 6
 units 1:1:2 largecargo 4
 units 1:1:4 smallcargo 20
+units 1:1:4 lightfighter 60
+units 1:1:4 launcher 9
 units 1:1:5 largecargo 10
 units 1:1:6 smallcargo 5
+units 1:1:6 lightfighter 30
+units 1:1:6 launcher 3
 units 1:1:5 smalldome 1
 stock 1:1:1 400000 300000 90000
 stock 1:1:2 90000 60000 20000
@@ -109,16 +115,18 @@ enum Form {
     Fleets,
     System,
     Send,
+    Join,
     Recall,
 }
 
-/// How many requests were granted of five forms.
+/// How many requests were granted of six forms.
 #[derive(Clone, Copy, Debug)]
 struct Granted {
     builds: u32,
     research: u32,
     batches: u32,
     flights: u32,
+    joins: u32,
     recalls: u32,
 }
 
@@ -129,6 +137,7 @@ impl Granted {
             Form::Research => self.research = self.research.saturating_add(1),
             Form::Yard => self.batches = self.batches.saturating_add(1),
             Form::Send => self.flights = self.flights.saturating_add(1),
+            Form::Join => self.joins = self.joins.saturating_add(1),
             Form::Recall => self.recalls = self.recalls.saturating_add(1),
             _ => {}
         }
@@ -137,7 +146,7 @@ impl Granted {
 
 /// The form of the next request: mostly an order.
 fn form_of(draws: &mut Draws) -> Form {
-    match draws.below(21) {
+    match draws.below(27) {
         0 => Form::Planet,
         1 => Form::Account,
         2 => Form::Set,
@@ -146,7 +155,8 @@ fn form_of(draws: &mut Draws) -> Form {
         9..=11 => Form::Yard,
         12 => Form::Fleets,
         13 => Form::System,
-        14..=17 => Form::Send,
+        14..=19 => Form::Send,
+        20..=24 => Form::Join,
         _ => Form::Recall,
     }
 }
@@ -163,6 +173,14 @@ fn asker_of(draws: &mut Draws) -> (u32, u32) {
     }
 }
 
+/// The position to which a fleet flies: mostly the one of which many fleets want something.
+fn target_of(draws: &mut Draws) -> u32 {
+    match draws.below(2) {
+        0 => 4,
+        _ => draws.below(7) + 1,
+    }
+}
+
 /// A fleet is sent, mostly with enough ships, and at times farther than it can go: to nowhere, to where it starts, or with a cargo that
 /// is too large.
 fn send_of(
@@ -172,14 +190,44 @@ fn send_of(
     player: u32,
     reading: u64,
 ) -> Result<String, AllocError> {
-    let target = draws.below(7) + 1;
-    let mission = ["transport", "deploy"][draws.below(2) as usize];
-    let setting = 10 - draws.below(4);
-    let ship = ["smallcargo", "largecargo"][draws.below(2) as usize];
+    let target = target_of(draws);
+    let mission = [
+        "transport",
+        "deploy",
+        "harvest",
+        "attack",
+        "attack",
+        "attack",
+    ][draws.below(6) as usize];
+    let setting = draws.below(10) + 1;
+    let ship = [
+        "smallcargo",
+        "largecargo",
+        "recycler",
+        "lightfighter",
+        "lightfighter",
+    ][draws.below(5) as usize];
     let count = draws.below(3) + 1;
-    let cargo = draws.below(3000);
+    let cargo = draws.below(100);
     format!(in alloc;
         "@{reading} {player} send 1:1:{position} 1:1:{target} {mission} {setting} {ship}={count} {cargo} {cargo} 0"
+    )
+}
+
+/// A fleet joins the last one that was sent, which at times doesn't attack, or flies elsewhere, or is too near to its target.
+fn join_of(
+    alloc: Global,
+    draws: &mut Draws,
+    position: u32,
+    player: u32,
+    reading: u64,
+    sent: u64,
+) -> Result<String, AllocError> {
+    let target = target_of(draws);
+    let group = sent.max(1);
+    let count = draws.below(3) + 1;
+    format!(in alloc;
+        "@{reading} {player} join {group} 1:1:{position} 1:1:{target} 10 lightfighter={count} 0 0 0"
     )
 }
 
@@ -216,6 +264,7 @@ fn line_of(
         Form::Fleets => format!(in alloc; "@{reading} {player} fleets"),
         Form::System => format!(in alloc; "@{reading} {player} system 1:1"),
         Form::Send => send_of(alloc, draws, position, player, reading),
+        Form::Join => join_of(alloc, draws, position, player, reading, sent),
         Form::Recall => {
             let fleet = sent.saturating_sub(u64::from(draws.below(2))).max(1);
             format!(in alloc; "@{reading} {player} recall {fleet}")
@@ -301,6 +350,7 @@ fn play(rt: &impl Abort, alloc: Global, seed: u64, lines: u32) -> Result<Granted
         research: 0,
         batches: 0,
         flights: 0,
+        joins: 0,
         recalls: 0,
     };
     'lines: for _ in 0..lines {
@@ -328,16 +378,23 @@ fn play(rt: &impl Abort, alloc: Global, seed: u64, lines: u32) -> Result<Granted
 
 #[test]
 fn the_slow_program_and_the_lazy_one_agree(rt: HostRuntime) -> Result<(), Fail> {
+    let mut flights = 0u32;
+    let mut joins = 0u32;
+    let mut recalls = 0u32;
     'seeds: for seed in 0..6 {
         let granted = play(&rt, rt.alloc(), seed, 500)?;
         assert!(rt;
             granted.builds > 20 && granted.research > 2 && granted.batches > 0,
             "seed {seed}: {granted:?}"
         );
-        assert!(rt;
-            granted.flights > 8 && granted.recalls > 0,
-            "seed {seed}: {granted:?}"
-        );
+        flights = flights.saturating_add(granted.flights);
+        joins = joins.saturating_add(granted.joins);
+        recalls = recalls.saturating_add(granted.recalls);
     }
+    assert!(rt; flights > 60, "{flights} sent");
+    assert!(rt;
+        joins > 2 && recalls > 3,
+        "{joins} joined, {recalls} called back"
+    );
     Ok(())
 }

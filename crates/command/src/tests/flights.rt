@@ -11,7 +11,7 @@ const ONE_CARGO: &[u8] =
 tech 1 combustion 2\nstock 1:1:1 1000 1000 100\nunits 1:1:1 smallcargo 1\n.\n";
 
 /// What `trial` writes for a founding text and a script is what is wanted.
-fn is_told(alloc: Global, founding: &[u8], told: Answers) -> Result<bool, Fail> {
+pub(super) fn is_told(alloc: Global, founding: &[u8], told: Answers) -> Result<bool, Fail> {
     let (script, wanted) = told;
     let mut input = Vec::from_slice(alloc, founding)?;
     input.extend_from_slice(script)?;

@@ -16,5 +16,5 @@ pub returns-clause-lands : goal.returns-clause-lands
 returns-clause-lands c =
     let fleet = fleet_seen c.args.fleet.now in
     let place = place_held c.args.self.now fleet c.requires.land.owed in
-    landing_after c.args.rules.now c.args.self.now c.leave_all.new.self c.unload.new.self fleet (option_map cargo_seen c.cargo_back-back.result) place.cell place.found c.cargo_back-back.ensures.back
+    landing_after c.args.rules.now c.args.self.now c.leave_all.new.self c.unload.new.self fleet (option_map cargo_seen c.cargo_back-back.result) place.cell place.found (c.cargo_back-back.ensures.back place.cell place.found)
     c.leave_all.ensures.leaves c.unload.ensures.unloads

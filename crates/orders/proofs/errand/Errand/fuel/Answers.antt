@@ -1,4 +1,3 @@
-use Rattle.std.proofs.Common.{arith}
 use Rattle.orders.proofs.Burning.{fuel_within}
 use Rattle.orders.proofs.errand.Errand.fuel.Goals as goal
 

@@ -1,0 +1,4 @@
+pub mod Losses
+pub mod Parts
+pub mod Leaving
+pub mod Aftermath
