@@ -79,7 +79,8 @@ def planet_lines(rng, place, owner, free_fields):
     for word, level in levels.items():
         yield f"level {place} {word} {level}"
     if wealth != NEW:
-        for unit in {*rng.sample(UNITS, rng.randint(1, 4)), "probe", rng.choice(["smallcargo", "largecargo"]), *rng.sample(WARRIORS, 2)}:
+        some = rng.sample(UNITS, rng.randint(1, 4)) + rng.sample(WARRIORS, 2)
+        for unit in sorted({*some, "probe", rng.choice(["smallcargo", "largecargo"])}):
             yield f"units {place} {unit} {1 if unit in DOMES else rng.choice([1, 7, 30, 700])}"
 
 
@@ -552,8 +553,6 @@ def ask_wrongly(script):
         script.say(STRANGER, f"{form} {EMPTY_PLACE}{word}")
         script.say(player, f"{form} {EMPTY_PLACE}{word}")
         script.say(stranger_to_it, f"{form} {script.rng.choice(script.places_of(player))}{word}")
-
-
     for place in (EMPTY_PLACE, script.rng.choice(script.places_of(player))):
         script.say(stranger_to_it, f"join 1 {place} 1:10:1 10 probe=1 0 0 0")
 
