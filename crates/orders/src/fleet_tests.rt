@@ -1,7 +1,9 @@
 ghost use Rattle.std.specs.Prelude.{◌≤◌};
 ghost use Rattle.catalog.specs.declared.amounts.TheConstants.{CAP};
 
-use crate::tests::{account_with, asked, grants, parts_of, planet, refuses};
+use crate::tests::{
+    account_with, asked, grants, grants_each, parts_of, planet, refuses, refuses_each,
+};
 use crate::{PartFleets, Parts, SystemPlanet};
 use base_ids::{Coord, Player};
 use catalog::{Amounts, Ships, UNITS};
@@ -62,37 +64,69 @@ fn number(rt: &impl Abort, fleets: &mut PartFleets, number: u64)
     number_in(rt, &mut fleets.to_owner, number);
 }
 
+/// A fleet is sent, paid by the planet, and gets number 7.
+fn is_sent(rt: &impl Abort, alloc: Global, own: &mut Parts) -> Result<(), Fail> {
+    let cases = [
+        (
+            b"send 1:1:1 1:1:2 transport 10 smallcargo=2 100 0 0".as_slice(),
+            b"arrives 4972 fuel 3\n".as_slice(),
+        ),
+        (
+            b"planet 1:1:1",
+            b"planet 1:1:1 1 -20 163 0\nstock 400 500 497\nhourly 20 10 0\nlimit 10000 10000 10000\nenergy 0 0\ndebris 0 0\n",
+        ),
+    ];
+    grants_each(rt, alloc, own, &cases)?;
+    number(rt, &mut own.fleets, 7);
+    Ok(())
+}
+
+/// The fleet that was sent is shown, and no other one is called back.
+fn is_out(rt: &impl Abort, alloc: Global, own: &mut Parts) -> Result<(), Fail> {
+    let cases = [
+        (
+            b"account".as_slice(),
+            b"account 1 2 1 1\nplanet 1:1:1\n".as_slice(),
+        ),
+        (
+            b"fleets",
+            b"fleet 7 7 transport 1:1:1 1:1:2 out 4972 100 0 0 smallcargo=2\n",
+        ),
+    ];
+    grants_each(rt, alloc, own, &cases)?;
+    refuses(rt, alloc, own, b"recall 8", NO_FLEET)
+}
+
+/// The fleet is called back at second 100.
+fn is_called_back(rt: &impl Abort, alloc: Global, own: &mut Parts) -> Result<(), Fail> {
+    let acted = asked(alloc, own, b"recall 7", 100)?;
+    assert_eq!(rt; acted.code, 0);
+    assert!(rt; acted.body.as_slice() == b"back 200\n".as_slice());
+    Ok(())
+}
+
+/// The fleet flies back, belongs to its owner alone, and isn't called back once more.
+fn flies_back(rt: &impl Abort, alloc: Global, own: &mut Parts) -> Result<(), Fail> {
+    let back = b"fleet 7 7 transport 1:1:1 1:1:2 back 200 100 0 0 smallcargo=2\n";
+    grants(rt, alloc, own, b"fleets", back)?;
+    assert_eq!(rt; own.fleets.from.len(), 1);
+    assert!(rt; own.fleets.to.is_empty());
+    assert!(rt; own.fleets.to_owner.is_empty());
+    refuses(rt, alloc, own, b"recall 7", NOT_OUTBOUND)
+}
+
 #[test]
 fn a_fleet_is_sent_and_called_back(rt: HostRuntime) -> Result<(), Fail> {
     let alloc = rt.alloc();
     let mut own = parts(&rt, alloc, 500)?;
-    let line = b"send 1:1:1 1:1:2 transport 10 smallcargo=2 100 0 0";
-    grants(&rt, alloc, &mut own, line, b"arrives 4972 fuel 3\n")?;
-    let planet =
-        b"planet 1:1:1 1 -20 163 0\nstock 400 500 497\nhourly 20 10 0\nlimit 10000 10000 10000\nenergy 0 0\ndebris 0 0\n";
-    grants(&rt, alloc, &mut own, b"planet 1:1:1", planet)?;
-    number(&rt, &mut own.fleets, 7);
-    let account = b"account 1 2 1 1\nplanet 1:1:1\n";
-    grants(&rt, alloc, &mut own, b"account", account)?;
-    let flies = b"fleet 7 7 transport 1:1:1 1:1:2 out 4972 100 0 0 smallcargo=2\n";
-    grants(&rt, alloc, &mut own, b"fleets", flies)?;
-    refuses(&rt, alloc, &mut own, b"recall 8", NO_FLEET)?;
-    let acted = asked(alloc, &mut own, b"recall 7", 100)?;
-    assert_eq!(rt; acted.code, 0);
-    assert!(rt; acted.body.as_slice() == b"back 200\n".as_slice());
-    let back = b"fleet 7 7 transport 1:1:1 1:1:2 back 200 100 0 0 smallcargo=2\n";
-    grants(&rt, alloc, &mut own, b"fleets", back)?;
-    assert_eq!(rt; own.fleets.from.len(), 1);
-    assert!(rt; own.fleets.to.is_empty());
-    assert!(rt; own.fleets.to_owner.is_empty());
-    refuses(&rt, alloc, &mut own, b"recall 7", NOT_OUTBOUND)?;
-    Ok(())
+    is_sent(&rt, alloc, &mut own)?;
+    is_out(&rt, alloc, &mut own)?;
+    is_called_back(&rt, alloc, &mut own)?;
+    flies_back(&rt, alloc, &mut own)
 }
 
-#[test]
-fn each_refusal_of_a_fleet_is_told(rt: HostRuntime) -> Result<(), Fail> {
-    let alloc = rt.alloc();
-    let mut own = parts(&rt, alloc, 500)?;
+/// What is no fleet that the caller could send is refused.
+fn no_fleet_is_sent(rt: &impl Abort, alloc: Global, own: &mut Parts) -> Result<(), Fail> {
     let cases = [
         (
             b"send 1:1:1 1:1:2 deploy 10 smallcargo=3 0 0 0".as_slice(),
@@ -113,20 +147,54 @@ fn each_refusal_of_a_fleet_is_told(rt: HostRuntime) -> Result<(), Fail> {
         (b"send 1:1:1 1:1:2 transport 10 smallcargo=1 501 0 0", POOR),
         (b"send 1:1:1 1:1:2 transport 10 smallcargo=1 0 0 499", POOR),
     ];
-    for (line, code) in cases {
-        refuses(&rt, alloc, &mut own, line, code)?;
-    }
-    let line = b"send 1:1:1 1:1:2 transport 10 smallcargo=1 0 0 498";
-    grants(&rt, alloc, &mut own, line, b"arrives 4972 fuel 2\n")?;
-    refuses(&rt, alloc, &mut own, line, NO_SLOT)?;
+    refuses_each(rt, alloc, own, &cases)
+}
+
+/// A line that sends a small cargo with all the deuterium that is left.
+const SEND: &[u8] = b"send 1:1:1 1:1:2 transport 10 smallcargo=1 0 0 498";
+
+/// A fleet is sent, and then no other one has a slot.
+fn no_slot_is_left(rt: &impl Abort, alloc: Global, own: &mut Parts) -> Result<(), Fail> {
+    grants(rt, alloc, own, SEND, b"arrives 4972 fuel 2\n")?;
+    refuses(rt, alloc, own, SEND, NO_SLOT)
+}
+
+/// No fleet is sent from a planet of player 2, and none from where no planet is.
+fn no_origin_is_own(rt: &impl Abort, alloc: Global, own: &mut Parts) -> Result<(), Fail> {
     own.from = Some(planet(alloc, 2, 163, 0));
-    refuses(&rt, alloc, &mut own, line, NOT_YOURS)?;
+    refuses(rt, alloc, own, SEND, NOT_YOURS)?;
     own.from = None;
-    refuses(&rt, alloc, &mut own, line, NO_PLANET)?;
+    refuses(rt, alloc, own, SEND, NO_PLANET)
+}
+
+/// Who is no player has no fleets.
+fn nobody_has_fleets(rt: &impl Abort, alloc: Global, own: &mut Parts) -> Result<(), Fail> {
     own.caller = None;
-    refuses(&rt, alloc, &mut own, line, NO_PLAYER)?;
-    refuses(&rt, alloc, &mut own, b"fleets", NO_PLAYER)?;
-    refuses(&rt, alloc, &mut own, b"recall 7", NO_PLAYER)?;
+    let cases = [
+        (SEND, NO_PLAYER),
+        (b"fleets", NO_PLAYER),
+        (b"recall 7", NO_PLAYER),
+    ];
+    refuses_each(rt, alloc, own, &cases)
+}
+
+#[test]
+fn each_refusal_of_a_fleet_is_told(rt: HostRuntime) -> Result<(), Fail> {
+    let alloc = rt.alloc();
+    let mut own = parts(&rt, alloc, 500)?;
+    no_fleet_is_sent(&rt, alloc, &mut own)?;
+    no_slot_is_left(&rt, alloc, &mut own)?;
+    no_origin_is_own(&rt, alloc, &mut own)?;
+    nobody_has_fleets(&rt, alloc, &mut own)
+}
+
+/// The system shows a planet of player 1 at this place, with so much metal and 50 crystal in its debris.
+fn see(own: &mut Parts, at: Coord, metal: u64) -> Result<(), Fail> {
+    own.seen.push(SystemPlanet {
+        at,
+        owner: Player { k: 1 },
+        debris: Debris { metal, crystal: 50 },
+    })?;
     Ok(())
 }
 
@@ -134,14 +202,8 @@ fn each_refusal_of_a_fleet_is_told(rt: HostRuntime) -> Result<(), Fail> {
 fn a_system_lists_its_planets(rt: HostRuntime) -> Result<(), Fail> {
     let alloc = rt.alloc();
     let mut own = parts(&rt, alloc, 0)?;
-    for (p, metal) in [(1, 0), (2, 300)] {
-        own.seen.push(SystemPlanet {
-            at: Coord { g: 1, s: 1, p },
-            owner: Player { k: 1 },
-            debris: Debris { metal, crystal: 50 },
-        })?;
-    }
+    see(&mut own, Coord { g: 1, s: 1, p: 1 }, 0)?;
+    see(&mut own, Coord { g: 1, s: 1, p: 2 }, 300)?;
     let text = b"at 1:1:1 1 0 50\nat 1:1:2 1 300 50\n";
-    grants(&rt, alloc, &mut own, b"system 1:1", text)?;
-    Ok(())
+    grants(&rt, alloc, &mut own, b"system 1:1", text)
 }

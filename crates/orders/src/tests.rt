@@ -183,101 +183,168 @@ pub fn grants(
     Ok(())
 }
 
-#[test]
-fn only_the_caller_is_shown_the_planet(rt: HostRuntime) -> Result<(), Fail> {
-    let alloc = rt.alloc();
+/// Each line is refused with its code.
+pub fn refuses_each(
+    rt: &impl Abort,
+    alloc: Global,
+    parts: &mut Parts,
+    cases: &[(&[u8], u8)],
+) -> Result<(), Fail> {
+    'cases: for (line, code) in cases {
+        refuses(rt, alloc, parts, line, *code)?;
+    }
+    Ok(())
+}
+
+/// Each line is granted, and answered with its text.
+pub fn grants_each(
+    rt: &impl Abort,
+    alloc: Global,
+    parts: &mut Parts,
+    cases: &[(&[u8], &[u8])],
+) -> Result<(), Fail> {
+    'cases: for (line, text) in cases {
+        grants(rt, alloc, parts, line, text)?;
+    }
+    Ok(())
+}
+
+/// A line is granted so many times, whatever the answer says.
+fn fills(
+    rt: &impl Abort,
+    alloc: Global,
+    parts: &mut Parts,
+    line: &[u8],
+    times: u8,
+) -> Result<(), Fail> {
+    'times: for _ in 0..times {
+        let acted = asked(alloc, parts, line, 0)?;
+        assert_eq!(rt; acted.code, 0);
+    }
+    Ok(())
+}
+
+/// The planet of player 1 is shown to its owner.
+fn owner_is_shown(rt: &impl Abort, alloc: Global) -> Result<(), Fail> {
     let mut own = parts(alloc, planet(alloc, 1, 163, 500))?;
     let text =
         b"planet 1:1:1 1 -20 163 0\nstock 500 500 500\nhourly 20 10 0\nlimit 10000 10000 10000\nenergy 0 0\ndebris 0 0\n";
-    grants(&rt, alloc, &mut own, b"planet 1:1:1", text)?;
+    grants(rt, alloc, &mut own, b"planet 1:1:1", text)
+}
+
+/// Player 1 is refused what only the owner of the planet is granted.
+fn others_are_refused(rt: &impl Abort, alloc: Global) -> Result<(), Fail> {
     let mut other = parts(alloc, planet(alloc, 2, 163, 500))?;
-    refuses(&rt, alloc, &mut other, b"planet 1:1:1", NOT_YOURS)?;
-    refuses(&rt, alloc, &mut other, b"build 1:1:1 metalmine", NOT_YOURS)?;
-    refuses(&rt, alloc, &mut other, b"set 1:1:1 metalmine 3", NOT_YOURS)?;
-    refuses(&rt, alloc, &mut other, b"research 1:1:1 energy", NOT_YOURS)?;
-    refuses(&rt, alloc, &mut other, b"yard 1:1:1 launcher 1", NOT_YOURS)?;
-    Ok(())
+    let cases = [
+        (b"planet 1:1:1".as_slice(), NOT_YOURS),
+        (b"build 1:1:1 metalmine", NOT_YOURS),
+        (b"set 1:1:1 metalmine 3", NOT_YOURS),
+        (b"research 1:1:1 energy", NOT_YOURS),
+        (b"yard 1:1:1 launcher 1", NOT_YOURS),
+    ];
+    refuses_each(rt, alloc, &mut other, &cases)
+}
+
+#[test]
+fn only_the_caller_is_shown_the_planet(rt: HostRuntime) -> Result<(), Fail> {
+    let alloc = rt.alloc();
+    owner_is_shown(&rt, alloc)?;
+    others_are_refused(&rt, alloc)
+}
+
+/// Who is no player is told so.
+fn nobody_is_told(rt: &impl Abort, alloc: Global) -> Result<(), Fail> {
+    let mut nobody = parts_of(alloc, None, Some(planet(alloc, 1, 163, 500)));
+    let cases = [
+        (b"planet 1:1:1".as_slice(), NO_PLAYER),
+        (b"build 1:1:1 metalmine", NO_PLAYER),
+        (b"research 1:1:1 energy", NO_PLAYER),
+        (b"account", NO_PLAYER),
+    ];
+    refuses_each(rt, alloc, &mut nobody, &cases)
+}
+
+/// Who names what is no planet is told so.
+fn nowhere_is_told(rt: &impl Abort, alloc: Global) -> Result<(), Fail> {
+    let mut nowhere = parts_of(alloc, Some(account(alloc)?), None);
+    let cases = [
+        (b"planet 1:1:1".as_slice(), NO_PLANET),
+        (b"set 1:1:1 metalmine 3", NO_PLANET),
+        (b"yard 1:1:1 launcher 1", NO_PLANET),
+        (b"join 1 1:1:1 1:1:2 10 smallcargo=1 0 0 0", NO_PLANET),
+    ];
+    refuses_each(rt, alloc, &mut nowhere, &cases)
 }
 
 #[test]
 fn who_is_no_player_and_what_is_no_planet_is_told(rt: HostRuntime) -> Result<(), Fail> {
     let alloc = rt.alloc();
-    let mut nobody = parts_of(alloc, None, Some(planet(alloc, 1, 163, 500)));
-    refuses(&rt, alloc, &mut nobody, b"planet 1:1:1", NO_PLAYER)?;
-    refuses(&rt, alloc, &mut nobody, b"build 1:1:1 metalmine", NO_PLAYER)?;
-    refuses(&rt, alloc, &mut nobody, b"research 1:1:1 energy", NO_PLAYER)?;
-    refuses(&rt, alloc, &mut nobody, b"account", NO_PLAYER)?;
-    let mut nowhere = parts_of(alloc, Some(account(alloc)?), None);
-    refuses(&rt, alloc, &mut nowhere, b"planet 1:1:1", NO_PLANET)?;
-    refuses(
-        &rt,
-        alloc,
-        &mut nowhere,
-        b"set 1:1:1 metalmine 3",
-        NO_PLANET,
-    )?;
-    refuses(
-        &rt,
-        alloc,
-        &mut nowhere,
-        b"yard 1:1:1 launcher 1",
-        NO_PLANET,
-    )?;
-    let join = b"join 1 1:1:1 1:1:2 10 smallcargo=1 0 0 0";
-    refuses(&rt, alloc, &mut nowhere, join, NO_PLANET)?;
-    Ok(())
+    nobody_is_told(&rt, alloc)?;
+    nowhere_is_told(&rt, alloc)
 }
 
 #[test]
 fn a_building_starts_and_the_next_one_waits(rt: HostRuntime) -> Result<(), Fail> {
     let alloc = rt.alloc();
     let mut own = parts(alloc, planet(alloc, 1, 163, 500))?;
-    grants(
-        &rt,
-        alloc,
-        &mut own,
-        b"build 1:1:1 metalmine",
-        b"starts 1 108\n",
-    )?;
-    grants(
-        &rt,
-        alloc,
-        &mut own,
-        b"build 1:1:1 crystalstore",
-        b"waits 2\n",
-    )?;
-    let text =
-        b"planet 1:1:1 1 -20 163 0\nstock 440 485 500\nhourly 20 10 0\nlimit 10000 10000 10000\nenergy 0 0\ndebris 0 0\nbuilding 0 metalmine 1 108\nwaiting 0 crystalstore\n";
-    grants(&rt, alloc, &mut own, b"planet 1:1:1", text)?;
-    Ok(())
+    let cases = [
+        (
+            b"build 1:1:1 metalmine".as_slice(),
+            b"starts 1 108\n".as_slice(),
+        ),
+        (b"build 1:1:1 crystalstore", b"waits 2\n"),
+        (
+            b"planet 1:1:1",
+            b"planet 1:1:1 1 -20 163 0\nstock 440 485 500\nhourly 20 10 0\nlimit 10000 10000 10000\nenergy 0 0\ndebris 0 0\nbuilding 0 metalmine 1 108\nwaiting 0 crystalstore\n",
+        ),
+    ];
+    grants_each(&rt, alloc, &mut own, &cases)
 }
 
 #[test]
 fn a_work_is_set(rt: HostRuntime) -> Result<(), Fail> {
     let alloc = rt.alloc();
     let mut own = parts(alloc, planet(alloc, 1, 163, 500))?;
-    grants(&rt, alloc, &mut own, b"set 1:1:1 satellite 3", b"")?;
-    let text =
-        b"planet 1:1:1 1 -20 163 0\nstock 500 500 500\nhourly 20 10 0\nlimit 10000 10000 10000\nenergy 0 0\ndebris 0 0\nset satellite 3\n";
-    grants(&rt, alloc, &mut own, b"planet 1:1:1", text)?;
-    Ok(())
+    let cases = [
+        (b"set 1:1:1 satellite 3".as_slice(), b"".as_slice()),
+        (
+            b"planet 1:1:1",
+            b"planet 1:1:1 1 -20 163 0\nstock 500 500 500\nhourly 20 10 0\nlimit 10000 10000 10000\nenergy 0 0\ndebris 0 0\nset satellite 3\n",
+        ),
+    ];
+    grants_each(&rt, alloc, &mut own, &cases)
+}
+
+/// A building that is too dear is refused, and one that requires another.
+fn dear_buildings_are_refused(rt: &impl Abort, alloc: Global) -> Result<(), Fail> {
+    let mut poor = parts(alloc, planet(alloc, 1, 163, 47))?;
+    let cases = [
+        (b"build 1:1:1 crystalmine".as_slice(), POOR),
+        (b"build 1:1:1 shipyard", REQUIRES),
+    ];
+    refuses_each(rt, alloc, &mut poor, &cases)
+}
+
+/// A building for which no field is left is refused.
+fn a_bare_planet_is_refused(rt: &impl Abort, alloc: Global) -> Result<(), Fail> {
+    let mut bare = parts(alloc, planet(alloc, 1, 0, 500))?;
+    refuses(rt, alloc, &mut bare, b"build 1:1:1 metalmine", NO_FIELDS)
+}
+
+/// The sixth building of a queue is refused.
+fn a_full_queue_is_refused(rt: &impl Abort, alloc: Global) -> Result<(), Fail> {
+    let mut full = parts(alloc, planet(alloc, 1, 163, 500))?;
+    let line = b"build 1:1:1 metalmine";
+    fills(rt, alloc, &mut full, line, 5)?;
+    refuses(rt, alloc, &mut full, line, QUEUE_FULL)
 }
 
 #[test]
 fn each_refusal_of_a_building_is_told(rt: HostRuntime) -> Result<(), Fail> {
     let alloc = rt.alloc();
-    let mut poor = parts(alloc, planet(alloc, 1, 163, 47))?;
-    refuses(&rt, alloc, &mut poor, b"build 1:1:1 crystalmine", POOR)?;
-    refuses(&rt, alloc, &mut poor, b"build 1:1:1 shipyard", REQUIRES)?;
-    let mut bare = parts(alloc, planet(alloc, 1, 0, 500))?;
-    refuses(&rt, alloc, &mut bare, b"build 1:1:1 metalmine", NO_FIELDS)?;
-    let mut full = parts(alloc, planet(alloc, 1, 163, 500))?;
-    for _ in 0..5u8 {
-        let acted = asked(alloc, &mut full, b"build 1:1:1 metalmine", 0)?;
-        assert_eq!(rt; acted.code, 0);
-    }
-    refuses(&rt, alloc, &mut full, b"build 1:1:1 metalmine", QUEUE_FULL)?;
-    Ok(())
+    dear_buildings_are_refused(&rt, alloc)?;
+    a_bare_planet_is_refused(&rt, alloc)?;
+    a_full_queue_is_refused(&rt, alloc)
 }
 
 /// The building that runs is done.
@@ -292,17 +359,21 @@ fn finish(rt: &impl Abort, parts: &mut Parts) -> Result<(), Fail> {
     Ok(())
 }
 
+/// A metal store is built so many times, one after another.
+fn builds(rt: &impl Abort, alloc: Global, parts: &mut Parts, times: u8) -> Result<(), Fail> {
+    'times: for _ in 0..times {
+        fills(rt, alloc, parts, b"build 1:1:1 metalstore", 1)?;
+        finish(rt, parts)?;
+    }
+    Ok(())
+}
+
 #[test]
 fn no_building_rises_above_its_cap(rt: HostRuntime) -> Result<(), Fail> {
     let alloc = rt.alloc();
     let mut rich = parts(alloc, planet(alloc, 1, 163, CAP))?;
-    for _ in 0..16u8 {
-        let acted = asked(alloc, &mut rich, b"build 1:1:1 metalstore", 0)?;
-        assert_eq!(rt; acted.code, 0);
-        finish(&rt, &mut rich)?;
-    }
-    refuses(&rt, alloc, &mut rich, b"build 1:1:1 metalstore", LEVEL_CAP)?;
-    Ok(())
+    builds(&rt, alloc, &mut rich, 16)?;
+    refuses(&rt, alloc, &mut rich, b"build 1:1:1 metalstore", LEVEL_CAP)
 }
 
 #[test]
@@ -318,63 +389,84 @@ fn an_account_lists_its_technologies_and_planets(rt: HostRuntime) -> Result<(), 
 fn a_batch_is_paid_and_counts_for_the_account(rt: HostRuntime) -> Result<(), Fail> {
     let alloc = rt.alloc();
     let mut own = parts(alloc, workshops(alloc, 9000))?;
-    let line = b"yard 1:1:1 launcher 2";
-    grants(&rt, alloc, &mut own, line, b"starts 2 1440\n")?;
-    grants(&rt, alloc, &mut own, line, b"waits 2\n")?;
-    let text =
-        b"planet 1:1:1 1 -20 163 4\nstock 1000 9000 9000\nhourly 20 10 0\nlimit 10000 10000 10000\nenergy 0 0\ndebris 0 0\nlevel robotics 2\nlevel shipyard 1\nlevel lab 1\nyard 0 launcher 2 1440\nyardwaiting 0 launcher 2\n";
-    grants(&rt, alloc, &mut own, b"planet 1:1:1", text)?;
-    let account = b"account 1 4 0 1\nplanet 1:1:1\n";
-    grants(&rt, alloc, &mut own, b"account", account)?;
-    Ok(())
+    let line = b"yard 1:1:1 launcher 2".as_slice();
+    let cases = [
+        (line, b"starts 2 1440\n".as_slice()),
+        (line, b"waits 2\n"),
+        (
+            b"planet 1:1:1",
+            b"planet 1:1:1 1 -20 163 4\nstock 1000 9000 9000\nhourly 20 10 0\nlimit 10000 10000 10000\nenergy 0 0\ndebris 0 0\nlevel robotics 2\nlevel shipyard 1\nlevel lab 1\nyard 0 launcher 2 1440\nyardwaiting 0 launcher 2\n",
+        ),
+        (b"account", b"account 1 4 0 1\nplanet 1:1:1\n"),
+    ];
+    grants_each(&rt, alloc, &mut own, &cases)
 }
 
 #[test]
 fn a_technology_starts_and_the_next_one_waits(rt: HostRuntime) -> Result<(), Fail> {
     let alloc = rt.alloc();
     let mut own = parts(alloc, workshops(alloc, 1000))?;
-    let line = b"research 1:1:1 energy";
-    grants(&rt, alloc, &mut own, line, b"starts 1 1440\n")?;
-    grants(&rt, alloc, &mut own, line, b"waits 2\n")?;
-    let text =
-        b"account 1 0 0 1\nplanet 1:1:1\nresearch 0 energy 1 1440 1:1:1\nwaiting 0 energy 1:1:1\n";
-    grants(&rt, alloc, &mut own, b"account", text)?;
-    let planet =
-        b"planet 1:1:1 1 -20 163 4\nstock 1000 200 600\nhourly 20 10 0\nlimit 10000 10000 10000\nenergy 0 0\ndebris 0 0\nlevel robotics 2\nlevel shipyard 1\nlevel lab 1\n";
-    grants(&rt, alloc, &mut own, b"planet 1:1:1", planet)?;
-    Ok(())
+    let line = b"research 1:1:1 energy".as_slice();
+    let cases = [
+        (line, b"starts 1 1440\n".as_slice()),
+        (line, b"waits 2\n"),
+        (
+            b"account",
+            b"account 1 0 0 1\nplanet 1:1:1\nresearch 0 energy 1 1440 1:1:1\nwaiting 0 energy 1:1:1\n",
+        ),
+        (
+            b"planet 1:1:1",
+            b"planet 1:1:1 1 -20 163 4\nstock 1000 200 600\nhourly 20 10 0\nlimit 10000 10000 10000\nenergy 0 0\ndebris 0 0\nlevel robotics 2\nlevel shipyard 1\nlevel lab 1\n",
+        ),
+    ];
+    grants_each(&rt, alloc, &mut own, &cases)
+}
+
+/// The account and the planet of player 1, who has learned, with so many units and so many units of each resource.
+fn learned_parts(alloc: Global, units: u32, resources: u64) -> Result<Parts, AllocError>
+    requires units { units ≤ UNITS }
+    requires resources { resources ≤ CAP }
+{
+    let account = learned(alloc, units)?;
+    Ok(parts_of(alloc, Some(account), Some(workshops(alloc, resources))))
 }
 
 #[test]
 fn each_refusal_of_units_is_told(rt: HostRuntime) -> Result<(), Fail> {
     let alloc = rt.alloc();
-    let account = learned(alloc, 99_990)?;
-    let mut own = parts_of(alloc, Some(account), Some(workshops(alloc, 1_000_000)));
-    refuses(&rt, alloc, &mut own, b"yard 1:1:1 smalldome 2", LEVEL_CAP)?;
-    refuses(&rt, alloc, &mut own, b"yard 1:1:1 smalldome 1", REQUIRES)?;
-    refuses(&rt, alloc, &mut own, b"yard 1:1:1 launcher 501", POOR)?;
-    refuses(&rt, alloc, &mut own, b"yard 1:1:1 launcher 11", CEILING)?;
-    'batches: for _ in 0..5u8 {
-        let acted = asked(alloc, &mut own, b"yard 1:1:1 launcher 2", 0)?;
-        assert_eq!(rt; acted.code, 0);
-    }
-    refuses(&rt, alloc, &mut own, b"yard 1:1:1 smalldome 2", QUEUE_FULL)?;
-    Ok(())
+    let mut own = learned_parts(alloc, 99_990, 1_000_000)?;
+    let cases = [
+        (b"yard 1:1:1 smalldome 2".as_slice(), LEVEL_CAP),
+        (b"yard 1:1:1 smalldome 1", REQUIRES),
+        (b"yard 1:1:1 launcher 501", POOR),
+        (b"yard 1:1:1 launcher 11", CEILING),
+    ];
+    refuses_each(&rt, alloc, &mut own, &cases)?;
+    fills(&rt, alloc, &mut own, b"yard 1:1:1 launcher 2", 5)?;
+    refuses(&rt, alloc, &mut own, b"yard 1:1:1 smalldome 2", QUEUE_FULL)
+}
+
+/// A technology that is at its cap is refused, one that requires another, and the sixth one of a queue.
+fn what_is_no_research_is_refused(rt: &impl Abort, alloc: Global) -> Result<(), Fail> {
+    let mut own = learned_parts(alloc, 0, 10_000)?;
+    let cases = [
+        (b"research 1:1:1 graviton".as_slice(), LEVEL_CAP),
+        (b"research 1:1:1 plasma", REQUIRES),
+    ];
+    refuses_each(rt, alloc, &mut own, &cases)?;
+    fills(rt, alloc, &mut own, b"research 1:1:1 energy", 5)?;
+    refuses(rt, alloc, &mut own, b"research 1:1:1 graviton", QUEUE_FULL)
+}
+
+/// A technology that is too dear is refused.
+fn dear_research_is_refused(rt: &impl Abort, alloc: Global) -> Result<(), Fail> {
+    let mut poor = parts(alloc, workshops(alloc, 799))?;
+    refuses(rt, alloc, &mut poor, b"research 1:1:1 energy", POOR)
 }
 
 #[test]
 fn each_refusal_of_research_is_told(rt: HostRuntime) -> Result<(), Fail> {
     let alloc = rt.alloc();
-    let account = learned(alloc, 0)?;
-    let mut own = parts_of(alloc, Some(account), Some(workshops(alloc, 10_000)));
-    refuses(&rt, alloc, &mut own, b"research 1:1:1 graviton", LEVEL_CAP)?;
-    refuses(&rt, alloc, &mut own, b"research 1:1:1 plasma", REQUIRES)?;
-    'items: for _ in 0..5u8 {
-        let acted = asked(alloc, &mut own, b"research 1:1:1 energy", 0)?;
-        assert_eq!(rt; acted.code, 0);
-    }
-    refuses(&rt, alloc, &mut own, b"research 1:1:1 graviton", QUEUE_FULL)?;
-    let mut poor = parts(alloc, workshops(alloc, 799))?;
-    refuses(&rt, alloc, &mut poor, b"research 1:1:1 energy", POOR)?;
-    Ok(())
+    what_is_no_research_is_refused(&rt, alloc)?;
+    dear_research_is_refused(&rt, alloc)
 }

@@ -28,6 +28,31 @@ stock 1263 256 0\nhourly 20 10 0\nlimit 10000 10000 10000\nenergy 0 0\ndebris 0 
     Ok(())
 }
 
+/// A light fighter of player 1, and three of player 2, who can be back when it comes.
+const FIGHTERS: &[u8] =
+    b"universe 7 1 1000 0\nplayer 1\nplayer 2\nplanet 1:1:1 1 40 163\nplanet 1:1:2 2 40 163\nstock 1:1:1 0 0 10\n\
+stock 1:1:2 0 0 10\nunits 1:1:1 lightfighter 1\nunits 1:1:2 lightfighter 3\n.\n";
+
+#[test]
+fn who_is_back_in_the_second_of_a_battle_fights_by_number(rt: HostRuntime) -> Result<(), Fail> {
+    let told: Answers = (
+        b"@0 2 send 1:1:2 1:1:1 transport 10 lightfighter=3 0 0 0\n@3148 1 send 1:1:1 1:1:2 attack 10 lightfighter=1 0 0 0\n\
+@6296 2 planet 1:1:2\n@6296 1 fleets\n",
+        b"ok 1 0\narrives 3148 fuel 7\n.\nok 2 3148\narrives 6296 fuel 3\n.\nok 3 6296\nplanet 1:1:2 2 40 163 0\n\
+stock 34 17 3\nhourly 20 10 0\nlimit 10000 10000 10000\nenergy 0 0\ndebris 900 300\nunits lightfighter 3\n.\nok 4 6296\n.\n",
+    );
+    assert!(rt; is_told(rt.alloc(), FIGHTERS, told)?);
+    let told: Answers = (
+        b"@0 1 send 1:1:1 1:1:2 attack 4 lightfighter=1 0 0 0\n@1559 2 send 1:1:2 1:1:1 transport 10 lightfighter=3 0 0 0\n\
+@7855 2 planet 1:1:2\n@7855 1 fleets\n",
+        b"ok 1 0\narrives 7855 fuel 2\n.\nok 2 1559\narrives 4707 fuel 7\n.\nok 3 7855\nplanet 1:1:2 2 40 163 0\n\
+stock 22 11 2\nhourly 20 10 0\nlimit 10000 10000 10000\nenergy 0 0\ndebris 0 0\nunits lightfighter 3\n.\nok 4 7855\n\
+fleet 1 1 attack 1:1:1 1:1:2 back 15710 21 10 1 lightfighter=1\n.\n",
+    );
+    assert!(rt; is_told(rt.alloc(), FIGHTERS, told)?);
+    Ok(())
+}
+
 /// A player who researches weapons while light fighters fly to a planet behind a small dome.
 const RESEARCHING: &[u8] =
     b"universe 7 1 1000 0\nplayer 1\nplayer 2\nplanet 1:1:1 1 40 163\nplanet 1:1:2 2 40 163\ntech 1 weapons 3\n\
