@@ -138,4 +138,5 @@ def main():
         print(f"| {name} | {min(run[0] for run in runs):.2f} | {max(run[1] for run in runs):.0f} |", flush=True)
 
 
-main()
+if __name__ == "__main__":
+    main()
