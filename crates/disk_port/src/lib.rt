@@ -7,6 +7,7 @@ mod disks;
 mod file;
 mod laws;
 mod memory;
+mod synced;
 #[cfg(test)]
 mod tests;
 
@@ -16,3 +17,4 @@ pub use disks::{Disks, OpenRefused, Served};
 pub use file::FileDisk;
 pub use laws::{cuts_tear, moments_chain, pairs_chain, writes_hold, writes_tear};
 pub use memory::MemoryDisk;
+pub use synced::write_and_sync;

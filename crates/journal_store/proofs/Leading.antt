@@ -2,13 +2,13 @@
 use Rattle.std.proofs.Common.{◌≡◌, ℕ, ◌+◌, ◌-◌, ◌*◌, ◌≤◌, List, [], ◌∷◌, ◌++◌, length, take, drop, sym, ◌∙◌, ap, subst, arith, length-append, length-take}
 use Rattle.std.proofs.lemmas.List.Elements.{All-push}
 use Rattle.disk_port.specs.Contents.{written, Torn}
-use Rattle.disk_port.specs.Moments.{EachNow, EachSince}
+use Rattle.disk_port.specs.Moments.{EachNow, EachSince, TornFrom}
 use Rattle.disk_port.specs.Story.{Story, Lawful}
 use Rattle.disk_port.proofs.Moments.{started, joined, weakened, now-since, seen-now}
 use Rattle.journal_store.specs.Batches.{IsBatch, open_batch, open_batches, entries_of, HoldsFirst}
 use Rattle.journal_store.specs.Gates.{AtGate, Begins, IsFit, IsUnstaged, Rests, Stages, behind, batch_size, standing}
 use Rattle.journal_store.specs.Ledger.{Settles, settled}
-use Rattle.journal_store.specs.Standing.{TornFrom, Stands, CanFlush, Leads, Carries}
+use Rattle.journal_store.specs.Standing.{Stands, CanFlush, Leads, Carries}
 use Rattle.journal_store.specs.declared.batch.TheConstants.{BATCH}
 use Rattle.journal_store.specs.declared.gate.Gate.{Gate}
 use Rattle.journal_store.specs.declared.gate.Gate.TheVariants.{Closed, Staged}

@@ -1,5 +1,4 @@
 pub mod Appending
-pub mod Calls
 pub mod Contents
 pub mod Holding
 pub mod Going

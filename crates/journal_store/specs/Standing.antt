@@ -1,6 +1,5 @@
 -- How a disk stands to its journal.
 use Rattle.std.specs.Prelude.{◌≡◌, ℕ, List, ◌++◌, length, All}
-use Rattle.disk_port.specs.Contents.{Torn}
 use Rattle.disk_port.specs.Moments.{EachNow, EachSince}
 use Rattle.disk_port.specs.Story.{Story, Told}
 use Rattle.journal_store.specs.Batches.{IsBatch, open_batches, entries_of, HoldsFirst}
@@ -10,10 +9,6 @@ use Rattle.journal_store.specs.declared.journal.Journal.{Journal}
 use Rattle.request_text.specs.declared.entry.Entry.{Entry}
 
 module _ {D : Type 0} (story : Story D) where
-  -- an image from before, or what a crash may leave of it if so many bytes are written from this place on
-  abbrev pub TornFrom : D → ℕ → ℕ → List ℕ → Type 0
-  TornFrom disk at n c = (d : List ℕ) × story.leaves disk d × Torn at n d c
-
   -- The disk holds a front, which is what stood before the first closed gate at the start. Behind it stand batches of the
   -- entries that are durable since, and then what the journal keeps of the gate. A crash leaves all that.
   pub record Stands (front : List ℕ) (drawn : List Entry) (journal : Journal) (disk : D) : Type 0 where

@@ -2,8 +2,7 @@
 use crate::batch::{BATCH, drop_front, fill};
 use crate::gate::Gate;
 use crate::journal::Journal;
-use crate::steps::write_and_sync;
-use disk_port::Disk;
+use disk_port::{Disk, write_and_sync};
 use ports::Failed;
 
 impl Journal {

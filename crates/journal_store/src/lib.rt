@@ -8,7 +8,6 @@ mod gate;
 mod journal;
 mod laws;
 mod start;
-mod steps;
 #[cfg(test)]
 mod tests;
 

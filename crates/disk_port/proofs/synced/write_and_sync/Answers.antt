@@ -1,7 +1,7 @@
 use Rattle.std.proofs.Common.{length}
 use Rattle.disk_port.specs.Contents.{written}
-use Rattle.journal_store.proofs.Calls.{since_write, since_sync, synced_by}
-use Rattle.journal_store.proofs.steps.write_and_sync.Goals as goal
+use Rattle.disk_port.proofs.Sureness.{since_write, since_sync, synced_by}
+use Rattle.disk_port.proofs.synced.write_and_sync.Goals as goal
 
 pub returns-in_err-write_at-clause-since : goal.returns-in_err-write_at-clause-since
 returns-in_err-write_at-clause-since g c =

@@ -1,12 +1,11 @@
 // A write that is made sure of.
 ghost use Rattle.std.specs.Prelude.{◌≡◌, ◌≤◌, ◌+◌, length, OnOk};
 ghost use Rattle.disk_port.specs.Contents.{written};
-ghost use Rattle.disk_port.specs.Moments.{EachNow, EachSince};
+ghost use Rattle.disk_port.specs.Moments.{EachNow, EachSince, TornFrom};
 ghost use Rattle.disk_port.specs.Story.{Told};
-ghost use Rattle.journal_store.specs.Standing.{TornFrom};
 ghost use Rattle.ports.specs.Causes.{HasCause};
 
-use disk_port::Disk;
+use crate::disk::Disk;
 use ports::Failed;
 
 /// Writes bytes from this place on, and syncs. Until then a crash may leave any bytes there.

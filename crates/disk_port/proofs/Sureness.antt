@@ -3,10 +3,9 @@ use Rattle.std.proofs.Common.{◌≡◌, ℕ, List, Result, Ok, Err, OnOk, ◌�
 use Rattle.disk_port.specs.Contents.{Torn}
 use Rattle.disk_port.specs.Disk.{Tears, Settles, Elapses}
 use Rattle.disk_port.specs.HistoryLaws.{torn_not}
-use Rattle.disk_port.specs.Moments.{EachNow, EachSince}
+use Rattle.disk_port.specs.Moments.{EachNow, EachSince, TornFrom}
 use Rattle.disk_port.specs.Story.{Story, Lawful, Told}
 use Rattle.disk_port.proofs.Moments.{started, goes_on, now-since, settles-now}
-use Rattle.journal_store.specs.Standing.{TornFrom}
 
 module _ {D : Type 0} (story : Story D) where
   -- after the write
