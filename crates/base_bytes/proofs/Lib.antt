@@ -3,7 +3,19 @@ pub mod Pieces
 pub mod Listing
 pub mod Items
 pub mod Sweeping
+pub mod Totals
 pub mod Fronts
+pub mod Loads
+pub mod FleetBytes
+pub mod Telling
+pub mod Pairwise
+pub mod Respelling
+pub mod Carrying
+pub mod Sameness
+pub mod Ruled
+pub mod Placed
+pub mod Manning
+pub mod Fitting
 pub mod Among
 pub mod Queued
 pub mod Owned
@@ -13,3 +25,4 @@ pub mod Seen
 pub mod Bases
 pub mod Fresh
 pub mod Limited
+pub mod Timed

@@ -1,12 +1,12 @@
 -- The universe of a sound base keeps the limits.
-use Rattle.std.proofs.Common.{◌≡◌, ℕ, ◌≤◌, List, length, inl, inr, arith, rules, refl, ◌∙◌, sym, subst}
+use Rattle.std.proofs.Common.{◌≡◌, ℕ, ◌≤◌, true, false, List, length, inl, inr, arith, rules, refl, ◌∙◌, sym, subst}
 use Rattle.std.specs.Prelude.{map}
 use Rattle.std.proofs.lemmas.List.{length-map}
 use Rattle.std.proofs.lemmas.List.Elements.{All-contains}
 use Rattle.account_cell.specs.Account.{account_fields, account_queue, research_item, research_of}
 use Rattle.account_cell.specs.declared.account.Account.{Account}
 use Rattle.base_bytes.specs.Base.{account_seen, planet_seen, setting_of, universe_of}
-use Rattle.base_bytes.specs.Sound.{HasSlots, IsSound}
+use Rattle.base_bytes.specs.Sound.{HasSlots, IsInGroup, IsSound}
 use Rattle.base_bytes.specs.declared.base.Base.{Base}
 use Rattle.base_bytes.proofs.Among.{from-map, has-place, is-among}
 use Rattle.base_bytes.proofs.Flying.{each-fleet}
@@ -14,6 +14,8 @@ use Rattle.base_bytes.proofs.Seen.{account-shown, nothing-shown, planet-shown}
 use Rattle.base_ids.specs.declared.player.Player.{Player}
 use Rattle.base_ids.specs.declared.cell_id.CellId.{CellId}
 use Rattle.base_ids.specs.declared.cell_id.CellId.TheVariants.{Account as AccountId, Planet as PlanetId}
+use Rattle.catalog.specs.declared.mission.Mission.{Mission}
+use Rattle.catalog.specs.declared.mission.Mission.TheVariants.{Transport, Deploy, Harvest, Attack}
 use Rattle.catalog.specs.declared.ships.TheConstants.{UNITS}
 use Rattle.laziness.proofs.Bringing.{never, test}
 use Rattle.planet_cell.specs.Planet.{batch_item_of, fields_of, item_of, queue_of}
@@ -24,6 +26,7 @@ use Rattle.tick_model.proofs.Steady.{one-account, one-planet}
 use Rattle.tick_model.specs.declared.codes.TheConstants.{MOST_QUEUED}
 use Rattle.tick_model.specs.Limits.{KeepsLevels, KeepsLimits, KeepsTechs}
 use Rattle.tick_model.specs.Lines.{own_fleets, slots_of}
+use Rattle.tick_model.specs.Raids.{is_attack}
 use Rattle.tick_model.specs.Requests.{is_listed}
 use Rattle.tick_model.specs.Universe.{of_account, of_planet, AccountFields, PlanetFields, Fleet, QueueClass, Buildings, Researches, Yard}
 use Rattle.tick_model.specs.Views.{View, nothing_seen, view}
@@ -113,6 +116,20 @@ cell-limited base cell sound =
           ]
     ]
 
+-- a fleet that doesn't attack flies in a group of its own
+lone-group : (mission : Mission) (number group : ℕ) → IsInGroup mission number group → is_attack mission ≡ false → group ≡ number
+lone-group Attack number group grouped other = never true refl other
+lone-group Transport number group grouped other = grouped
+lone-group Deploy number group grouped other = grouped
+lone-group Harvest number group grouped other = grouped
+
+-- groups bear numbers from 1
+group-from : (mission : Mission) (number group : ℕ) → 1 ≤ number → IsInGroup mission number group → 1 ≤ group
+group-from Attack number group some grouped = grouped.0
+group-from Transport number group some grouped = omega (arith, some, grouped)
+group-from Deploy number group some grouped = omega (arith, some, grouped)
+group-from Harvest number group some grouped = omega (arith, some, grouped)
+
 pub keeps-limits : (base : Base) → IsSound base → KeepsLimits (setting_of base) (universe_of base).state
 keeps-limits base sound = record {
   queued = λ cell class. (cell-limited base cell sound).queued class;
@@ -120,5 +137,8 @@ keeps-limits base sound = record {
   levelled = λ cell planet is. (cell-limited base cell sound).levelled planet is;
   learned = λ cell account is. (cell-limited base cell sound).learned account is;
   loaded = λ fleet is. let one = each-fleet base fleet sound is in (one.manned, one.laden);
+  errands = λ fleet is.
+      let one = each-fleet base fleet sound is in
+      record { elsewhere = one.elsewhere; suited = one.suited; alone = lone-group fleet.mission fleet.number fleet.group one.grouped; grouped = group-from fleet.mission fleet.number fleet.group one.drawn.0 one.grouped };
   slots = λ player account is. (cell-limited base (AccountId player) sound).slots player account refl is;
 }

@@ -1,10 +1,10 @@
 -- Bytes that are written piece by piece.
-use Rattle.std.proofs.Common.{◌≡◌, ℕ, List, [], ◌∷◌, ◌++◌, ◌∙◌, ap}
+use Rattle.std.proofs.Common.{◌≡◌, ℕ, List, [], ◌∷◌, ◌++◌, ◌∙◌, ap, codes, refl}
 use Rattle.std.specs.List.{flat_map}
 use Rattle.std.proofs.lemmas.List.{append_assoc, append-nil}
 use Rattle.base_bytes.specs.Spelling.{account_bytes, base_spelling, counts_bytes, fleet_bytes, planet_bytes, rules_bytes}
 use Rattle.base_bytes.specs.declared.base.Base.{Base}
-use Rattle.records.specs.Entries.{joined}
+use Rattle.records.specs.Entries.{joined, u64}
 
 -- 5 pieces
 pub five_pieces : (s0 s1 s2 s3 s4 s5 a b c d e : List ℕ) → s1 ≡ s0 ++ a → s2 ≡ s1 ++ b → s3 ≡ s2 ++ c → s4 ≡ s3 ++ d → s5 ≡ s4 ++ e
@@ -26,3 +26,8 @@ whole_base s0 s1 s2 s3 s4 s5 base e0 e1 e2 e3 e4 e5 =
 -- 5 pieces and what stands behind them
 pub open_5 : (a b c d e more : List ℕ) → joined (a ∷ b ∷ c ∷ d ∷ e ∷ []) ++ more ≡ a ++ (b ++ (c ++ (d ++ (e ++ more))))
 open_5 a b c d e more = simp append_assoc
+
+-- the mark is the number that stands for it
+pub mark_is : codes "OGBASE01" ≡ u64 5712607500680114225
+unfolding u64
+mark_is = refl

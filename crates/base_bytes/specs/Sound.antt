@@ -19,6 +19,7 @@ use Rattle.planet_cell.specs.declared.planet.Planet.{Planet}
 use Rattle.reply_text.specs.declared.units.Units.{Units}
 use Rattle.tick_model.specs.declared.codes.TheConstants.{MOST_IN_GROUP}
 use Rattle.tick_model.specs.Limits.{KeepsLevels, KeepsTechs}
+use Rattle.tick_model.specs.Moments.{IsTimed}
 use Rattle.tick_model.specs.Flights.{cargo_units}
 use Rattle.tick_model.specs.Lines.{own_fleets, slots_of}
 use Rattle.tick_model.specs.Raids.{outbound_in}
@@ -75,9 +76,9 @@ pub record IsSoundFleet (base : Base) (fleet : Fleet) : Type 0 where
   pub in_time : fleet.second < 2 ^ 42
 
 -- Accounts, planets and fleets rise strictly by their names. Each planet is an account's, and counts units of all kinds; each account lists
--- the places of its planets, counts its units, and researches on its planets. What runs comes due after the moment, and each item
--- of a queue has the number of a request, no two of one class the same. Levels keep their caps, and planets their fields and one dome
--- of a kind, even if all is built that is queued. Each fleet is sound. Those that fly out in one group arrive together, and are no
+-- the places of its planets, counts its units, and researches on its planets. What runs comes due after the moment, in its time, and each
+-- item of a queue has the number of a request, no two of one class the same. The first level of a queue is the next one of its kind,
+-- and what is behind waits. Levels keep their caps, and planets their fields and one dome of a kind, even if all is built that is queued. Each fleet is sound. Those that fly out in one group arrive together, and are no
 -- more than a group may have; and no account has more fleets than it may have.
 pub record IsSound (base : Base) : Type 0 where
   pub accounts_rise : AllPairs (λ first second. player_before first.player second.player ≡ true) base.accounts.items
@@ -92,6 +93,7 @@ pub record IsSound (base : Base) : Type 0 where
   pub manned : All (λ planet. RunsAfter base.moment (batches_of planet)) base.planets.items
   pub researched : All (λ account. RunsAfter base.moment (research_of account)) base.accounts.items
   pub drawn : All (λ item. (1 ≤ item.number) × (item.number ≤ base.number)) (all_items base.accounts.items base.planets.items)
+  pub timed : All (IsTimed base.moment) (all_items base.accounts.items base.planets.items)
   pub distinct : AllPairs (λ first second. same_order first second ≡ false) (all_items base.accounts.items base.planets.items)
   pub levelled : All (λ planet. KeepsLevels (fields_of planet) (queue_of planet)) base.planets.items
   pub learned : All (λ account. KeepsTechs (account_fields account) (research_of account)) base.accounts.items

@@ -5,10 +5,18 @@ mod accounts;
 mod base;
 mod caps;
 mod fields;
+mod fleets;
+mod head;
 mod laws;
 mod limits;
+mod lists;
 mod numbers;
+mod parsing;
+mod parts;
+mod places;
+mod planets;
 mod queues;
+mod ranges;
 #[cfg(test)]
 mod tests;
 mod writing;

@@ -1,4 +1,5 @@
 // What no clause says: bytes that were worked out by hand.
+use crate::parsing::parse;
 use crate::writing::{put_batch, put_building, put_research};
 use crate::{Base, write};
 use account_cell::{Account, ResearchItem};
@@ -167,5 +168,43 @@ fn items_have_their_bytes(rt: HostRuntime) -> Result<(), Fail> {
         4, 0, 0, 0, 0, 0, 0, 1, 4,
     ];
     assert!(rt; bytes.as_slice() == want.as_slice());
+    Ok(())
+}
+
+#[test]
+fn a_base_is_read_from_its_bytes(rt: HostRuntime) -> Result<(), Fail> {
+    let alloc = rt.alloc();
+    let mut base = base(alloc);
+    base.accounts.push(account(alloc))?;
+    base.planets.push(planet(alloc))?;
+    let mut there = planet(alloc);
+    there.at = THERE;
+    there.owner = Player { k: 1 };
+    base.planets.push(there)?;
+    base.fleets.push(fleet())?;
+    let bytes = write(alloc, &base)?;
+    let found = parse(alloc, bytes.as_slice())?.ok_or("no base")?;
+    assert!(rt; write(alloc, &found)?.as_slice() == bytes.as_slice());
+    assert_eq!(rt; found.accounts.len(), 1);
+    assert!(rt; found.accounts[0].planets.as_slice() == [HOME].as_slice());
+    assert!(rt; found.fleets.as_slice() == base.fleets.as_slice());
+    Ok(())
+}
+
+#[test]
+fn no_base_is_read_from_other_bytes(rt: HostRuntime) -> Result<(), Fail> {
+    let alloc = rt.alloc();
+    assert!(rt; parse(alloc, &[])?.is_none());
+    let counts: [[u8; 12]; 3] = [
+        [0, 0, 39, 17, 0, 0, 0, 0, 0, 0, 0, 0],
+        [0, 0, 0, 0, 0, 0, 78, 33, 0, 0, 0, 0],
+        [0, 0, 0, 0, 0, 0, 0, 0, 255, 255, 255, 255],
+    ];
+    'counts: for count in &counts {
+        let mut bytes = Bytes::new(alloc);
+        bytes.push(&HEAD)?;
+        bytes.push(count)?;
+        assert!(rt; parse(alloc, bytes.as_slice())?.is_none());
+    }
     Ok(())
 }

@@ -25,6 +25,7 @@ use Rattle.planet_cell.specs.Planet.{batch_item_of, batches_of, buildings_of, fi
 use Rattle.planet_cell.specs.declared.planet.Planet.{Planet}
 use Rattle.tick_model.proofs.Lists.{in-filter}
 use Rattle.tick_model.specs.Limits.{KeepsLevels, KeepsTechs}
+use Rattle.tick_model.specs.Moments.{IsTimed}
 use Rattle.tick_model.specs.Refusals.{is_dome, used_fields}
 use Rattle.tick_model.specs.Rules.{ArriveTogether, IsIn, same_order}
 use Rattle.tick_model.specs.Universe.{Fleet, Item}
@@ -135,6 +136,9 @@ module _ (entries : List (Player × AccountSketch)) (sketches : List Sketch) (ac
   drawn-each : (number : ℕ) → All (λ item. (1 ≤ item.number) × (item.number ≤ number)) (all_items accounts planets)
   drawn-each number = subst (All (λ (item : Item). (1 ≤ item.number) × (item.number ≤ number))) (sym no-items) (λ k d below. absurd (omega (arith, below)))
 
+  timed-each : (moment : ℕ) → All (IsTimed moment) (all_items accounts planets)
+  timed-each moment = subst (All (IsTimed moment)) (sym no-items) (λ k d below. absurd (omega (arith, below)))
+
   distinct-each : AllPairs (λ first second. same_order first second ≡ false) (all_items accounts planets)
   distinct-each = subst (AllPairs (λ (first second : Item). same_order first second ≡ false)) (sym no-items) (λ i j d first below. absurd (omega (arith, below)))
 
@@ -186,6 +190,7 @@ comes-sound base entries sketches comes rises none =
       manned = manned-each entries sketches accounts planets comes base.moment;
       researched = researched-each entries sketches accounts planets comes base.moment;
       drawn = drawn-each entries sketches accounts planets comes base.number;
+      timed = timed-each entries sketches accounts planets comes base.moment;
       distinct = distinct-each entries sketches accounts planets comes;
       levelled = levelled-each entries sketches accounts planets comes;
       learned = learned-each entries sketches accounts planets comes;

@@ -22,6 +22,7 @@ use Rattle.planet_cell.specs.declared.planet.Planet.{Planet}
 use Rattle.reply_text.specs.declared.reply.Reply.{Reply}
 use Rattle.request_text.specs.declared.request.Request.{Request}
 use Rattle.tick_model.specs.Limits.{KeepsLevels, KeepsTechs}
+use Rattle.tick_model.specs.Moments.{IsTimed}
 use Rattle.tick_model.specs.Raids.{outbound_in}
 use Rattle.tick_model.specs.Rules.{ArriveTogether, same_order}
 use Rattle.tick_model.specs.Views.{ships_of, units_left}
@@ -105,6 +106,7 @@ sound_two base account one two flown accounts planets listed counted research fi
       researched = one-all (λ a. RunsAfter base.moment (research_of a)) base.accounts.items account accounts
           (subst (λ items. RunsAfter base.moment (map (research_item account.player) items)) (sym research) tt);
       drawn = none-all (λ item. (1 ≤ item.number) × (item.number ≤ base.number)) (all_items base.accounts.items base.planets.items) empty;
+      timed = none-all (IsTimed base.moment) (all_items base.accounts.items base.planets.items) empty;
       distinct = none-pairs (λ a b. same_order a b ≡ false) (all_items base.accounts.items base.planets.items) empty;
       levelled = two-all (λ p. KeepsLevels (fields_of p) (queue_of p)) base.planets.items one two planets (idle-levels one idle) (idle-levels two idle_too);
       learned = one-all (λ a. KeepsTechs (account_fields a) (research_of a)) base.accounts.items account accounts (fresh-techs account (ap (map (research_item account.player)) research));

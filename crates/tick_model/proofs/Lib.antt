@@ -27,6 +27,9 @@ pub mod Seen
 pub mod Nexts
 pub mod Brought
 pub mod EventLaws
+pub mod Waiting
+pub mod Spans
+pub mod Timing
 pub mod Outcomes
 pub mod Written
 pub mod Arising
@@ -36,6 +39,7 @@ pub mod Rising
 pub mod LimitsQueues
 pub mod LimitsFleets
 pub mod LimitsBattles
+pub mod Errands
 pub mod LimitsKept
 pub mod LimitsOrders
 pub mod LimitsAsked
@@ -45,4 +49,5 @@ pub mod Worlds
 pub mod Talks
 pub mod Once
 pub mod Keeping
+pub mod TimeKept
 pub mod LimitsWorlds

@@ -22,6 +22,7 @@ use Rattle.tick_model.specs.Universe.{Own, of_account, of_planet, AccountFields,
 use Rattle.tick_model.specs.Views.{View, belongs, holding, holding_at, queue_in, ships_of, shown, units_held, units_left, units_of, view}
 use Rattle.tick_model.proofs.Asked.{shown-account, shown-planet, shown-there}
 use Rattle.tick_model.proofs.Landings.{cons-weight, weight}
+use Rattle.tick_model.proofs.Errands.{recalled-errands, sent-errands}
 use Rattle.tick_model.proofs.LimitsFleets.{own-last, recalled-fewer, recalled-loaded}
 use Rattle.tick_model.proofs.LimitsKept.{same-most}
 use Rattle.tick_model.proofs.LimitsOrders.{allowed-still, joined-kept}
@@ -56,6 +57,7 @@ owns-limits setting u own alike steady limits = record {
   levelled = λ cell. (steady-kept setting u own steady limits cell).levelled;
   learned = λ cell. (steady-kept setting u own steady limits cell).learned;
   loaded = limits.loaded;
+  errands = limits.errands;
   slots = slots-kept setting u own u.fleets (λ x. steady-slots _ _ (steady x)) (λ player. omega arith) limits;
 }
 
@@ -82,6 +84,7 @@ recalled-limits setting u own number t alike steady limits = record {
   levelled = λ cell. (steady-kept setting u own steady limits cell).levelled;
   learned = λ cell. (steady-kept setting u own steady limits cell).learned;
   loaded = recalled-loaded t number u.fleets limits.loaded;
+  errands = recalled-errands t number u.fleets limits.errands;
   slots = slots-kept setting u own (filter_map (became_at number (recalled_by t)) u.fleets) (λ x. steady-slots _ _ (steady x)) (recalled-fewer t number u.fleets) limits;
 }
 
@@ -213,6 +216,7 @@ module _ (setting : Setting) (a : Entry) (t : ℕ) (u : State) (fine : KeepsRule
       levelled = λ cell. (steady-kept setting u sent_state.own sent-steady limits cell).levelled;
       learned = λ cell. (steady-kept setting u sent_state.own sent-steady limits cell).learned;
       loaded = sent-loaded;
+      errands = sent-errands u.fleets fleet (new.errand (omega arith)) limits.errands;
       slots = sent-slots;
     }
 
@@ -331,6 +335,7 @@ module _ (setting : Setting) (a : Entry) (t : ℕ) (u : State) (fine : KeepsRule
       levelled = λ cell. (joined-all cell).levelled;
       learned = λ cell. (joined-all cell).learned;
       loaded = limits.loaded;
+      errands = limits.errands;
       slots = slots-kept setting u own u.fleets (λ x. steady-slots _ _ (steady x)) (λ player. omega arith) limits;
     }
 
@@ -357,7 +362,7 @@ module _ (setting : Setting) (a : Entry) (t : ℕ) (u : State) (fine : KeepsRule
 
 -- the next number changes nothing of it
 numbered-limits : (setting : Setting) (u : State) (number : ℕ) → KeepsLimits setting u → KeepsLimits setting (record u { number = number })
-numbered-limits setting u number limits = record { queued = limits.queued; counted = limits.counted; levelled = limits.levelled; learned = limits.learned; loaded = limits.loaded; slots = limits.slots }
+numbered-limits setting u number limits = record { queued = limits.queued; counted = limits.counted; levelled = limits.levelled; learned = limits.learned; loaded = limits.loaded; errands = limits.errands; slots = limits.slots }
 
 pub step-limits : (setting : Setting) (a : Entry) (t : ℕ) (u : State) → KeepsRules setting u → KeepsLimits setting u → KeepsLimits setting (step setting a.player a.req t u).state
 unfolding step

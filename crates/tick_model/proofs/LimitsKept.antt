@@ -23,6 +23,7 @@ use Rattle.tick_model.proofs.Raids.{raid-in}
 use Rattle.tick_model.proofs.Effects.{StandsBy, after, came_queue, effect-is, event-ends, other-queue, queue-after, seen_of}
 use Rattle.tick_model.proofs.EventLaws.{next_found}
 use Rattle.tick_model.proofs.EventKeeps.{event-keeps}
+use Rattle.tick_model.proofs.Errands.{event-errands}
 use Rattle.tick_model.proofs.Gains.{advance-keeps, gained, view-advanced}
 use Rattle.tick_model.proofs.Landings.{after_landing, flies-in, landing-is}
 use Rattle.tick_model.proofs.Lists.{and-is, cell-is, class-is}
@@ -46,6 +47,7 @@ gains-limits setting k state limits = record {
   levelled = λ cell. (advance-kept setting k state (all-kept setting state limits) cell).levelled;
   learned = λ cell. (advance-kept setting k state (all-kept setting state limits) cell).learned;
   loaded = limits.loaded;
+  errands = limits.errands;
   slots = slots-kept setting state (advance setting k state).own state.fleets (λ x. steady-slots _ _ (advance-steady setting k state x)) (λ player. omega arith) limits;
 }
 
@@ -135,6 +137,7 @@ event-limits setting state event fine stands limits = record {
   levelled = λ cell. (event-kept setting state event fine stands limits cell).levelled;
   learned = λ cell. (event-kept setting state event fine stands limits cell).learned;
   loaded = event-loaded setting state event fine stands limits;
+  errands = event-errands setting state event fine stands limits.errands;
   slots = event-slots setting state event fine stands limits;
 }
 

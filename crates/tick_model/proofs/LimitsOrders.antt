@@ -8,7 +8,7 @@ use Rattle.catalog.specs.Kinds.{kind_number}
 use Rattle.catalog.specs.Levels.{level_cap_of}
 use Rattle.catalog.specs.Technologies.{level_in}
 use Rattle.catalog.specs.declared.kind.Kind.{Kind}
-use Rattle.tick_model.specs.Limits.{KeepsLevels, KeepsTechs, ordered_units}
+use Rattle.tick_model.specs.Limits.{KeepsLevels, KeepsTechs, OthersWait, Rises, ordered_units}
 use Rattle.tick_model.specs.Production.{level_of}
 use Rattle.tick_model.specs.Refusals.{is_dome, queued, used_fields}
 use Rattle.tick_model.specs.Rules.{IsBatch}
@@ -18,18 +18,19 @@ use Rattle.tick_model.proofs.LimitsOwn.{IsKept, level-same, levels-queues, used-
 use Rattle.tick_model.proofs.Outcomes.{IsAllowed}
 use Rattle.tick_model.proofs.Raising.{batch_units, none-ordered, one-kind, one_if, ones, ordered-last, queued-last}
 use Rattle.tick_model.proofs.Steady.{IsBuiltAlike, IsSteady, same, alike, one-planet}
+use Rattle.tick_model.proofs.Waiting.{IsBehind, IsNext, next-same, others-joined, rises-joined}
 
 -- what is allowed stays so as long as what a cell has of its own is steady
 building-still : (item : Item) (items : List Item) (old new : PlanetFields) → IsBuiltAlike old new
-    → (level_of old item.kind + queued item.kind items < level_cap_of item.kind) × (used_fields old + length items < old.fields)
-    → (level_of new item.kind + queued item.kind items < level_cap_of item.kind) × (used_fields new + length items < new.fields)
+    → (level_of old item.kind + queued item.kind items < level_cap_of item.kind) × (used_fields old + length items < old.fields) × IsNext (level_of old) items item
+    → (level_of new item.kind + queued item.kind items < level_cap_of item.kind) × (used_fields new + length items < new.fields) × IsNext (level_of new) items item
 building-still item items old new built below =
     let level = level-same new old item.kind built.levels in
     let used = used-same new old built.levels in
     let room = built.fields in
     let cap = below.0 in
     let field = below.1 in
-    (omega (arith, level, cap), omega (arith, used, room, field))
+    (omega (arith, level, cap), omega (arith, used, room, field), next-same (level_of old) (level_of new) items item (λ kind. level-same old new kind (sym built.levels)) below.2)
 
 dome-still : (n count was left : ℕ) → count ≤ was → was + n + left ≤ 1 → count + n + left ≤ 1
 dome-still n count was left fewer alone = omega (arith, fewer, alone)
@@ -39,9 +40,10 @@ allowed-still class item old new items (same is) allowed = subst (λ own. IsAllo
 allowed-still Buildings item old new items (alike before after old_is new_is built) allowed = λ planet is.
     building-still item items before planet (subst (IsBuiltAlike before) (one-planet after planet (sym new_is ∙ is)) built) (allowed before old_is)
 allowed-still Researches item old new items (alike before after old_is new_is built) allowed = λ account is. absurd (let both : of_planet after ≡ of_account account = sym new_is ∙ is in cc)
-allowed-still Yard item old new items (alike before after old_is new_is built) allowed = λ planet is dome.
+allowed-still Yard item old new items (alike before after old_is new_is built) allowed = λ planet is.
     let one = subst (IsBuiltAlike before) (one-planet after planet (sym new_is ∙ is)) built in
-    dome-still (queued item.kind items) (count_of planet item.kind) (count_of before item.kind) item.left (one.domes item.kind dome) (allowed before old_is dome)
+    let was = allowed before old_is in
+    (λ dome. dome-still (queued item.kind items) (count_of planet item.kind) (count_of before item.kind) item.left (one.domes item.kind dome) (was.0 dome), was.1)
 
 others-none : (one other : Kind) → kind_number one ≢ kind_number other → one_if one other ≡ 0
 others-none one other apart = grind (arith, nat_tests)
@@ -56,6 +58,7 @@ one-below k kind level below within =
 
 joined-building : (item : Item) (planet : PlanetFields) (old new : QueueClass → List Item) → new Buildings ≡ old Buildings ++ item ∷ [] → new Yard ≡ old Yard
     → (level_of planet item.kind + queued item.kind (old Buildings) < level_cap_of item.kind) × (used_fields planet + length (old Buildings) < planet.fields)
+    × IsNext (level_of planet) (old Buildings) item
     → KeepsLevels planet old → KeepsLevels planet new
 joined-building item planet old new more yard allowed keeps = record {
   capped = λ kind is.
@@ -71,15 +74,21 @@ joined-building item planet old new more yard allowed keeps = record {
       let same = ap (ordered_units kind) yard in
       let before = keeps.domed kind is in
       omega (arith, same, before);
+  rising = subst (Rises (level_of planet)) (sym more) (rises-joined (level_of planet) (old Buildings) item allowed.2 keeps.rising);
+  waiting = subst OthersWait (sym yard) keeps.waiting;
 }
 
-joined-research : (item : Item) (account : AccountFields) (old new : List Item) → new ≡ old ++ item ∷ [] → level_in account.techs.n item.kind + queued item.kind old < level_cap_of item.kind
+joined-research : (item : Item) (account : AccountFields) (old new : List Item) → new ≡ old ++ item ∷ []
+    → (level_in account.techs.n item.kind + queued item.kind old < level_cap_of item.kind) × IsNext (level_in account.techs.n) old item
     → KeepsTechs account old → KeepsTechs account new
-joined-research item account old new more allowed keeps kind is =
-    let level = λ (x : Kind). level_in account.techs.n x + queued x old in
-    let below = one-below item.kind kind level allowed (keeps kind is) in
-    let all : queued kind new ≡ queued kind old + one_if item.kind kind = ap (queued kind) more ∙ queued-last kind old item in
-    omega (arith, below, all)
+joined-research item account old new more allowed keeps = record {
+  capped = λ kind is.
+      let level = λ (x : Kind). level_in account.techs.n x + queued x old in
+      let below = one-below item.kind kind level allowed.0 (keeps.capped kind is) in
+      let all : queued kind new ≡ queued kind old + one_if item.kind kind = ap (queued kind) more ∙ queued-last kind old item in
+      omega (arith, below, all);
+  rising = subst (Rises (level_in account.techs.n)) (sym more) (rises-joined (level_in account.techs.n) old item allowed.1 keeps.rising);
+}
 
 -- a dome is ordered where none is
 one-dome : (item : Item) (planet : PlanetFields) (old : List Item) (kind : Kind) → 1 ≤ item.left → (is_dome item.kind ≡ true → count_of planet item.kind + queued item.kind old + item.left ≤ 1)
@@ -106,7 +115,7 @@ one-dome item planet old kind some allowed is before =
     units-none false left is = refl
 
 joined-batch : (item : Item) (planet : PlanetFields) (old new : QueueClass → List Item) → new Yard ≡ old Yard ++ item ∷ [] → new Buildings ≡ old Buildings → 1 ≤ item.left
-    → (is_dome item.kind ≡ true → count_of planet item.kind + queued item.kind (old Yard) + item.left ≤ 1) → KeepsLevels planet old → KeepsLevels planet new
+    → (is_dome item.kind ≡ true → count_of planet item.kind + queued item.kind (old Yard) + item.left ≤ 1) × IsBehind (old Yard) item → KeepsLevels planet old → KeepsLevels planet new
 joined-batch item planet old new more buildings some allowed keeps = record {
   capped = λ kind is.
       let same = ap (queued kind) buildings in
@@ -117,9 +126,11 @@ joined-batch item planet old new more buildings some allowed keeps = record {
       let before = keeps.fielded in
       omega (arith, same, before);
   domed = λ kind is.
-      let one = one-dome item planet (old Yard) kind some allowed is (keeps.domed kind is) in
+      let one = one-dome item planet (old Yard) kind some allowed.0 is (keeps.domed kind is) in
       let all : ordered_units kind (new Yard) ≡ ordered_units kind (old Yard) + batch_units kind item = ap (ordered_units kind) more ∙ ordered-last kind (old Yard) item in
       omega (arith, one, all);
+  rising = subst (Rises (level_of planet)) (sym buildings) keeps.rising;
+  waiting = subst OthersWait (sym more) (others-joined (old Yard) item allowed.1 keeps.waiting);
 }
 
 -- a cell keeps its limits when an item that is allowed joins a queue of it

@@ -9,13 +9,14 @@ use Rattle.catalog.specs.declared.classes.TheConstants.{BUILDINGS}
 use Rattle.catalog.specs.declared.kind.Kind.{Kind}
 use Rattle.laziness.proofs.Bringing.{test}
 use Rattle.tick_model.specs.Changes.{owns}
-use Rattle.tick_model.specs.Limits.{KeepsLevels, KeepsLimits, KeepsTechs}
+use Rattle.tick_model.specs.Limits.{KeepsLevels, KeepsLimits, KeepsTechs, OthersWait, Rises}
 use Rattle.tick_model.specs.Lines.{own_fleets, slots_of}
 use Rattle.tick_model.specs.Production.{level_of}
 use Rattle.tick_model.specs.Refusals.{used_fields}
 use Rattle.tick_model.specs.Universe.{Own, of_account, of_planet, AccountFields, PlanetFields, QueueClass, Buildings, Researches, Yard, Fleet, Item, Setting, State}
 use Rattle.tick_model.specs.Views.{queue_in, shown, view}
 use Rattle.tick_model.proofs.Steady.{IsBuiltAlike, IsSteady, same, alike, SlotsStay, one-planet, steady-itself}
+use Rattle.tick_model.proofs.Waiting.{rises-same}
 use Rattle.tick_model.proofs.Writes.{owns_after, shown-own}
 
 -- what a cell has of its own keeps its limits with these queues
@@ -42,6 +43,8 @@ levels-steady old new queue built keeps = record {
   capped = λ kind is. let level = level-same new old kind built.levels in let before = keeps.capped kind is in omega (arith, level, before);
   fielded = let used = used-same new old built.levels in let fields = built.fields in let before = keeps.fielded in omega (arith, used, fields, before);
   domed = λ kind is. let fewer = built.domes kind is in let before = keeps.domed kind is in omega (arith, fewer, before);
+  rising = rises-same (level_of old) (level_of new) (queue Buildings) (λ kind. level-same old new kind (sym built.levels)) keeps.rising;
+  waiting = keeps.waiting;
 }
 
 pub kept-steady : (old new : Own) (queue : QueueClass → List Item) → IsSteady old new → IsKept old queue → IsKept new queue
@@ -55,10 +58,10 @@ kept-steady old new queue (alike before after old_is new_is built) kept = record
 pub levels-queues : (planet : PlanetFields) (old new : QueueClass → List Item) → new Buildings ≡ old Buildings → new Yard ≡ old Yard → KeepsLevels planet old → KeepsLevels planet new
 levels-queues planet old new buildings yard keeps =
     let built = λ (items : List Item). KeepsLevels planet (λ class. pick items (old Yard) class) in
-    let first : KeepsLevels planet (λ class. pick (old Buildings) (old Yard) class) = record { capped = keeps.capped; fielded = keeps.fielded; domed = keeps.domed } in
+    let first : KeepsLevels planet (λ class. pick (old Buildings) (old Yard) class) = record { capped = keeps.capped; fielded = keeps.fielded; domed = keeps.domed; rising = keeps.rising; waiting = keeps.waiting } in
     let second = subst (λ items. KeepsLevels planet (λ class. pick items (old Yard) class)) (sym buildings) first in
     let third = subst (λ items. KeepsLevels planet (λ class. pick (new Buildings) items class)) (sym yard) second in
-    record { capped = third.capped; fielded = third.fielded; domed = third.domed }
+    record { capped = third.capped; fielded = third.fielded; domed = third.domed; rising = third.rising; waiting = third.waiting }
   where
     pick : List Item → List Item → QueueClass → List Item
     pick buildings yard Buildings = buildings

@@ -1,5 +1,5 @@
 -- What comes of a request: nothing is changed, or a planet's own fields are, or an item joins a queue.
-use Rattle.std.proofs.Common.{◌≡◌, ℕ, ◌⊎◌, inl, inr, zero, suc, ◌+◌, ◌-◌, ◌*◌, ◌/◌, ◌<◌, ◌≤◌, List, [], ◌∷◌, ◌++◌, Bool, true, false, not, cond, eqb, Option, None, Some, length, nat_le, nat_lt, sum, arith, refl, ap, ◌∙◌, sym, subst, ◌&&◌}
+use Rattle.std.proofs.Common.{◌≡◌, ℕ, ◌⊎◌, inl, inr, zero, suc, ◌+◌, ◌-◌, ◌*◌, ◌/◌, ◌^◌, ◌<◌, ◌≤◌, List, [], ◌∷◌, ◌++◌, Bool, true, false, not, cond, eqb, Option, None, Some, length, nat_le, nat_lt, sum, arith, refl, ap, ◌∙◌, sym, subst, ◌&&◌}
 use Rattle.std.specs.Prelude.{IsTrue, nat_lt}
 use Rattle.std.specs.List.{list_any}
 use Rattle.std.proofs.lemmas.Bool.Decides.{nat_tests}
@@ -12,6 +12,7 @@ use Rattle.base_ids.specs.declared.coord.Coord.{Coord}
 use Rattle.base_ids.specs.declared.player.Player.{Player}
 use Rattle.base_ids.specs.declared.cell_id.CellId.{CellId}
 use Rattle.base_ids.specs.declared.cell_id.CellId.TheVariants.{Account, Planet}
+use Rattle.catalog.specs.Classes.{is_building, is_technology, is_unit}
 use Rattle.catalog.specs.Kinds.{place_in}
 use Rattle.catalog.specs.Levels.{level_cap_of}
 use Rattle.catalog.specs.Technologies.{level_in}
@@ -33,7 +34,7 @@ use Rattle.tick_model.specs.Buildings.{pays, started}
 use Rattle.tick_model.specs.Changes.{Change, new_fleet, new_owns, new_queue, no_change, owns, sends_fleet}
 use Rattle.tick_model.specs.Flights.{left_by, recalled_at, turned, cargo_units}
 use Rattle.tick_model.specs.Lines.{own_fleets, slots_of}
-use Rattle.tick_model.specs.Raids.{companions, raiders}
+use Rattle.tick_model.specs.Raids.{companions, is_attack, raiders}
 use Rattle.tick_model.specs.Refusals.{build_refusal, is_full, research_refusal, yard_refusal, is_dome, queued, used_fields}
 use Rattle.tick_model.specs.Requests.{Sight, Outcome, refused, granted, on_own, on_account, queue_seen, with_planet, ordered, queues, queues_research, queues_batch, builds, researches, yards, own_seen, outcome, shows, sets, tells, tells_fleets, tells_system, companions_seen, errand_of, joins_on, joins_raid, owner_there, raiders_seen, recalls, recalls_own, sends, sends_on}
 use Rattle.tick_model.specs.Sending.{Errand, arrival_of, can_go, departed, fleet_of, has_ships, is_late, join_refusal, launched, seconds_to, send_refusal, suits, with_group, fuel_of, has_room, load_of}
@@ -41,7 +42,7 @@ use Rattle.tick_model.specs.Researches.{pays_research, started_research}
 use Rattle.tick_model.specs.Rules.{IsBatch, IsIn, queue_cell}
 use Rattle.tick_model.specs.Universe.{Own, of_nothing, of_account, of_planet, AccountFields, Buildings, Researches, Yard, PlanetFields, Fleet, Item, QueueClass}
 use Rattle.tick_model.specs.Yards.{begun, pays_batch, count_of}
-use Rattle.tick_model.specs.Limits.{IsLoaded}
+use Rattle.tick_model.specs.Limits.{IsErrand, IsLoaded}
 use Rattle.tick_model.specs.Production.{level_of}
 use Rattle.tick_model.proofs.Ends.{duration-least, research-least, unit-least}
 use Rattle.tick_model.proofs.Fleets.{IsFleetOf, fleet-found}
@@ -49,7 +50,10 @@ use Rattle.tick_model.proofs.Lists.{and-is, not-false, not-true, number-is, or-i
 use Rattle.tick_model.proofs.Owns.{IsAlike, Stays, alike-itself, put-alike}
 use Rattle.tick_model.proofs.Raids.{raiders-are}
 use Rattle.tick_model.proofs.Steady.{IsBuiltAlike, IsSteady, left-below, one-account, one-planet, put-steady, steady-itself, steady-planet, units-alike}
+use Rattle.tick_model.proofs.Spans.{errand-most}
+use Rattle.tick_model.proofs.Timing.{IsFresh, fresh-batch, fresh-building, fresh-research, fresh-waits}
 use Rattle.tick_model.proofs.Units.{unit-place}
+use Rattle.tick_model.proofs.Waiting.{IsBehind, IsNext}
 
 -- the caller's account and a planet of the caller are seen
 pub record IsOwn (sight : Sight) (player : Player) (at : Coord) (account : AccountFields) (planet : PlanetFields) : Type 0 where
@@ -66,12 +70,16 @@ abbrev pub AllSeenSteady : Sight → (CellId → Own) → Type 0
 AllSeenSteady sight own = (x : CellId) → IsSteady (owns sight.seen x) (own x)
 
 -- An item may join these of a cell: with it no level rises above its highest one, a planet has the fields for its buildings, and no
--- second dome of a kind.
+-- second dome of a kind. If it is the first one it is the next level of its kind, and else it waits.
 abbrev pub IsAllowed : QueueClass → Item → Own → List Item → Type 0
 IsAllowed Buildings item own items =
-    (planet : PlanetFields) → own ≡ of_planet planet → (level_of planet item.kind + queued item.kind items < level_cap_of item.kind) × (used_fields planet + length items < planet.fields)
-IsAllowed Researches item own items = (account : AccountFields) → own ≡ of_account account → level_in account.techs.n item.kind + queued item.kind items < level_cap_of item.kind
-IsAllowed Yard item own items = (planet : PlanetFields) → own ≡ of_planet planet → is_dome item.kind ≡ true → count_of planet item.kind + queued item.kind items + item.left ≤ 1
+    (planet : PlanetFields) → own ≡ of_planet planet
+    → (level_of planet item.kind + queued item.kind items < level_cap_of item.kind) × (used_fields planet + length items < planet.fields) × IsNext (level_of planet) items item
+IsAllowed Researches item own items =
+    (account : AccountFields) → own ≡ of_account account
+    → (level_in account.techs.n item.kind + queued item.kind items < level_cap_of item.kind) × IsNext (level_in account.techs.n) items item
+IsAllowed Yard item own items =
+    (planet : PlanetFields) → own ≡ of_planet planet → (is_dome item.kind ≡ true → count_of planet item.kind + queued item.kind items + item.left ≤ 1) × IsBehind items item
 
 -- a request's item: it bears the request's number, and joins the queue of the right cell
 pub record IsOrdered (sight : Sight) (player : Player) (item : Item) : Type 0 where
@@ -88,10 +96,11 @@ pub record IsOrdered (sight : Sight) (player : Player) (item : Item) : Type 0 wh
   pub room : length (queue_seen sight item.cell item.class) < MOST_QUEUED
   pub few : item.class ≡ Yard → (sight.seen (Account player)).units + item.left ≤ UNITS
   pub allowed : IsAllowed item.class item (owns sight.seen item.cell) (queue_seen sight item.cell item.class)
+  pub fresh : IsFresh sight.moment item
 
--- a fleet flies in a group of its own, or along with one that flies to the same place
+-- a fleet flies in a group of its own, for 2^27 seconds at most, or along with one that flies to the same place
 pub data IsGrouped (fleets : List Fleet) (fleet : Fleet) : Type 0 where
-  alone : fleet.group ≡ fleet.number → IsGrouped fleets fleet
+  alone : fleet.group ≡ fleet.number → fleet.second ≤ fleet.launch + 2 ^ 27 → IsGrouped fleets fleet
   along : (leader : Fleet) → IsIn leader fleets → leader.outbound ≡ true → leader.group ≡ fleet.group → leader.target ≡ fleet.target → leader.second ≡ fleet.second
       → IsGrouped fleets fleet
 
@@ -109,6 +118,7 @@ pub record IsSent (sight : Sight) (player : Player) (own : CellId → Own) (flee
   pub built : IsBuiltAlike planet departed
   -- they carry its cargo, and the caller has a slot for it
   pub loaded : IsLoaded fleet
+  pub errand : 1 ≤ sight.number → IsErrand fleet
   pub slot : length (own_fleets player (sight.seen (Account player)).fleets) < slots_of account
   pub to : PlanetFields
   pub reaches : owns sight.seen (Planet fleet.target) ≡ of_planet to
@@ -116,6 +126,7 @@ pub record IsSent (sight : Sight) (player : Player) (own : CellId → Own) (flee
   pub number : fleet.number ≡ sight.number
   pub owner : fleet.owner ≡ player
   pub kinds : length fleet.ships ≡ length SHIPS
+  pub launched : fleet.launch ≡ sight.moment
   pub later : fleet.launch < fleet.second
   pub runs : sight.moment < fleet.second
   pub is_deployed : fleet.mission ≡ Deploy → fleet.target_owner ≡ fleet.owner
@@ -161,68 +172,72 @@ seen-steady sight x = steady-itself (owns sight.seen x)
 
 -- What is allowed by the planet or the account that is seen.
 
-allowed-building : (item : Item) (own : Own) (planet : PlanetFields) (items seen : List Item) → own ≡ of_planet planet → items ≡ seen
-    → (level_of planet item.kind + queued item.kind items < level_cap_of item.kind) × (used_fields planet + length items < planet.fields) → IsAllowed Buildings item own seen
-allowed-building item own planet items seen there is below p has =
-    subst (λ (x : PlanetFields). (level_of x item.kind + queued item.kind seen < level_cap_of item.kind) × (used_fields x + length seen < x.fields)) (one-planet planet p (sym there ∙ has))
-    (subst (λ queue. (level_of planet item.kind + queued item.kind queue < level_cap_of item.kind) × (used_fields planet + length queue < planet.fields)) is below)
+abbrev MayBuild : Item → List Item → PlanetFields → Type 0
+MayBuild item items planet =
+    (level_of planet item.kind + queued item.kind items < level_cap_of item.kind) × (used_fields planet + length items < planet.fields) × IsNext (level_of planet) items item
 
-allowed-research : (item : Item) (own : Own) (account : AccountFields) (items seen : List Item) → own ≡ of_account account → items ≡ seen
-    → level_in account.techs.n item.kind + queued item.kind items < level_cap_of item.kind → IsAllowed Researches item own seen
-allowed-research item own account items seen there is below a has =
-    subst (λ (x : AccountFields). level_in x.techs.n item.kind + queued item.kind seen < level_cap_of item.kind) (one-account account a (sym there ∙ has))
-    (subst (λ queue. level_in account.techs.n item.kind + queued item.kind queue < level_cap_of item.kind) is below)
+allowed-building : (item : Item) (own : Own) (planet : PlanetFields) (items seen : List Item) → own ≡ of_planet planet → items ≡ seen → MayBuild item items planet → IsAllowed Buildings item own seen
+allowed-building item own planet items seen there is may p has =
+    subst (MayBuild item seen) (one-planet planet p (sym there ∙ has)) (subst (λ queue. MayBuild item queue planet) is may)
 
-allowed-batch : (item : Item) (own : Own) (planet : PlanetFields) (items seen : List Item) → own ≡ of_planet planet → items ≡ seen
-    → (is_dome item.kind ≡ true → count_of planet item.kind + queued item.kind items + item.left ≤ 1) → IsAllowed Yard item own seen
-allowed-batch item own planet items seen there is lone p has dome =
-    subst (λ (x : PlanetFields). count_of x item.kind + queued item.kind seen + item.left ≤ 1) (one-planet planet p (sym there ∙ has))
-    (subst (λ queue. count_of planet item.kind + queued item.kind queue + item.left ≤ 1) is (lone dome))
+abbrev MayResearch : Item → List Item → AccountFields → Type 0
+MayResearch item items account = (level_in account.techs.n item.kind + queued item.kind items < level_cap_of item.kind) × IsNext (level_in account.techs.n) items item
+
+allowed-research : (item : Item) (own : Own) (account : AccountFields) (items seen : List Item) → own ≡ of_account account → items ≡ seen → MayResearch item items account → IsAllowed Researches item own seen
+allowed-research item own account items seen there is may a has =
+    subst (MayResearch item seen) (one-account account a (sym there ∙ has)) (subst (λ queue. MayResearch item queue account) is may)
+
+abbrev MayMake : Item → List Item → PlanetFields → Type 0
+MayMake item items planet = (is_dome item.kind ≡ true → count_of planet item.kind + queued item.kind items + item.left ≤ 1) × IsBehind items item
+
+allowed-batch : (item : Item) (own : Own) (planet : PlanetFields) (items seen : List Item) → own ≡ of_planet planet → items ≡ seen → MayMake item items planet → IsAllowed Yard item own seen
+allowed-batch item own planet items seen there is may p has =
+    subst (MayMake item seen) (one-planet planet p (sym there ∙ has)) (subst (λ queue. MayMake item queue planet) is may)
 
 room-seen : (items seen : List Item) → items ≡ seen → length items < MOST_QUEUED → length seen < MOST_QUEUED
 room-seen items seen is room = subst (λ queue. length queue < MOST_QUEUED) is room
 
 queues-change : (sight : Sight) (player : Player) (req : Request) (at : Coord) (kind : Kind) (account : AccountFields) (planet : PlanetFields) (items : List Item) → IsOwn sight player at account planet
-    → items ≡ queue_seen sight (Planet at) Buildings → length items < MOST_QUEUED
+    → IsTrue (is_building kind) → items ≡ queue_seen sight (Planet at) Buildings → length items < MOST_QUEUED
     → (level_of planet kind + queued kind items < level_cap_of kind) × (used_fields planet + length items < planet.fields) → Changes sight player req (queues sight at kind planet items).change
-queues-change sight player req at kind account planet [] own is room below =
+queues-change sight player req at kind account planet [] own class is room below =
     let item = started sight.rules.speed sight.moment planet (ordered sight (Planet at) Buildings at kind 0) in
     let least = duration-least sight.rules.speed planet kind in
     joined (with_planet sight at (pays planet kind)) item (planet-alike sight at planet (pays planet kind) own.there (refl, refl)) (planet-steady sight at planet (pays planet kind) own.there refl refl refl)
-    (record { account = account; planet = planet; is_own = own; number = refl; cell = refl; batch = tt; runs = λ none. omega (arith, least); paced = λ none yard. absurd cc; room = room-seen _ _ is room; few = λ yard. absurd cc; allowed = allowed-building item (owns sight.seen (Planet at)) planet _ _ own.there is below })
+    (record { account = account; planet = planet; is_own = own; number = refl; cell = refl; batch = tt; runs = λ none. omega (arith, least); paced = λ none yard. absurd cc; room = room-seen _ _ is room; few = λ yard. absurd cc; allowed = allowed-building item (owns sight.seen (Planet at)) planet _ _ own.there is (below.0, below.1, refl); fresh = fresh-building sight.rules.speed sight.moment planet (ordered sight (Planet at) Buildings at kind 0) sight.rules.speed_from refl class (let cap = below.0 in omega (arith, cap)) (refl, refl, refl) })
     (ap (λ items. new_queue (with_planet sight at (pays planet kind)) (Planet at) Buildings (items ++ item ∷ [])) is)
-queues-change sight player req at kind account planet (first ∷ later) own is room below =
+queues-change sight player req at kind account planet (first ∷ later) own class is room below =
     let item = ordered sight (Planet at) Buildings at kind 0 in
     joined (owns sight.seen) item (seen-alike sight) (seen-steady sight)
-    (record { account = account; planet = planet; is_own = own; number = refl; cell = refl; batch = tt; runs = λ none. some-before first later _ is none; paced = λ none yard. absurd cc; room = room-seen _ _ is room; few = λ yard. absurd cc; allowed = allowed-building item (owns sight.seen (Planet at)) planet _ _ own.there is below })
+    (record { account = account; planet = planet; is_own = own; number = refl; cell = refl; batch = tt; runs = λ none. some-before first later _ is none; paced = λ none yard. absurd cc; room = room-seen _ _ is room; few = λ yard. absurd cc; allowed = allowed-building item (owns sight.seen (Planet at)) planet _ _ own.there is (below.0, below.1, (refl, refl, refl)); fresh = fresh-waits sight.moment item class (refl, refl, refl) })
     (ap (λ items. new_queue (owns sight.seen) (Planet at) Buildings (items ++ item ∷ [])) is)
 
 research-change : (sight : Sight) (player : Player) (req : Request) (at : Coord) (kind : Kind) (account : AccountFields) (planet : PlanetFields) (items : List Item) → IsOwn sight player at account planet
-    → items ≡ queue_seen sight (Account player) Researches → length items < MOST_QUEUED → level_in account.techs.n kind + queued kind items < level_cap_of kind
+    → IsTrue (is_technology kind) → items ≡ queue_seen sight (Account player) Researches → length items < MOST_QUEUED → level_in account.techs.n kind + queued kind items < level_cap_of kind
     → Changes sight player req (queues_research sight player at kind account planet items).change
-research-change sight player req at kind account planet [] own is room below =
+research-change sight player req at kind account planet [] own class is room below =
     let item = started_research sight.rules.speed sight.moment account planet (ordered sight (Account player) Researches at kind 0) in
     let least = research-least sight.rules.speed account planet kind in
     joined (with_planet sight at (pays_research account planet kind)) item (planet-alike sight at planet (pays_research account planet kind) own.there (refl, refl)) (planet-steady sight at planet (pays_research account planet kind) own.there refl refl refl)
-    (record { account = account; planet = planet; is_own = own; number = refl; cell = refl; batch = tt; runs = λ none. omega (arith, least); paced = λ none yard. absurd cc; room = room-seen _ _ is room; few = λ yard. absurd cc; allowed = allowed-research item (owns sight.seen (Account player)) account _ _ own.caller is below })
+    (record { account = account; planet = planet; is_own = own; number = refl; cell = refl; batch = tt; runs = λ none. omega (arith, least); paced = λ none yard. absurd cc; room = room-seen _ _ is room; few = λ yard. absurd cc; allowed = allowed-research item (owns sight.seen (Account player)) account _ _ own.caller is (below, refl); fresh = fresh-research sight.rules.speed sight.moment account planet (ordered sight (Account player) Researches at kind 0) sight.rules.speed_from refl class (omega (arith, below)) (refl, refl, refl) })
     (ap (λ items. new_queue (with_planet sight at (pays_research account planet kind)) (Account player) Researches (items ++ item ∷ [])) is)
-research-change sight player req at kind account planet (first ∷ later) own is room below =
+research-change sight player req at kind account planet (first ∷ later) own class is room below =
     let item = ordered sight (Account player) Researches at kind 0 in
     joined (owns sight.seen) item (seen-alike sight) (seen-steady sight)
-    (record { account = account; planet = planet; is_own = own; number = refl; cell = refl; batch = tt; runs = λ none. some-before first later _ is none; paced = λ none yard. absurd cc; room = room-seen _ _ is room; few = λ yard. absurd cc; allowed = allowed-research item (owns sight.seen (Account player)) account _ _ own.caller is below })
+    (record { account = account; planet = planet; is_own = own; number = refl; cell = refl; batch = tt; runs = λ none. some-before first later _ is none; paced = λ none yard. absurd cc; room = room-seen _ _ is room; few = λ yard. absurd cc; allowed = allowed-research item (owns sight.seen (Account player)) account _ _ own.caller is (below, (refl, refl, refl)); fresh = fresh-waits sight.moment item class (refl, refl, refl) })
     (ap (λ items. new_queue (owns sight.seen) (Account player) Researches (items ++ item ∷ [])) is)
 
 batch-change : (sight : Sight) (player : Player) (req : Request) (at : Coord) (kind : Kind) (count : ℕ) (account : AccountFields) (planet : PlanetFields) (items : List Item) → IsOwn sight player at account planet
-    → 1 ≤ count → place_in UNIT_KINDS kind < length UNIT_KINDS → items ≡ queue_seen sight (Planet at) Yard → length items < MOST_QUEUED → (sight.seen (Account player)).units + count ≤ UNITS
+    → 1 ≤ count → IsTrue (is_unit kind) → place_in UNIT_KINDS kind < length UNIT_KINDS → items ≡ queue_seen sight (Planet at) Yard → length items < MOST_QUEUED → (sight.seen (Account player)).units + count ≤ UNITS
     → (is_dome kind ≡ true → count_of planet kind + queued kind items + count ≤ 1) → Changes sight player req (queues_batch sight at kind count planet items).change
-batch-change sight player req at kind count account planet [] own some known is room few lone =
+batch-change sight player req at kind count account planet [] own some class known is room few lone =
     let new = pays_batch planet kind count in
     let item = begun sight.rules.speed sight.moment planet (ordered sight (Planet at) Yard at kind count) in
     let least = unit-least sight.rules.speed planet kind in
     joined (with_planet sight at new) item (planet-alike sight at planet new own.there (refl, refl)) (planet-steady sight at planet new own.there refl refl refl)
-    (record { account = account; planet = planet; is_own = own; number = refl; cell = refl; batch = (some, known); runs = λ none. omega (arith, least); paced = λ none yard. least; room = room-seen _ _ is room; few = λ yard. few; allowed = allowed-batch item (owns sight.seen (Planet at)) planet _ _ own.there is lone })
+    (record { account = account; planet = planet; is_own = own; number = refl; cell = refl; batch = (some, known); runs = λ none. omega (arith, least); paced = λ none yard. least; room = room-seen _ _ is room; few = λ yard. few; allowed = allowed-batch item (owns sight.seen (Planet at)) planet _ _ own.there is (lone, tt); fresh = fresh-batch sight.rules.speed sight.moment planet (ordered sight (Planet at) Yard at kind count) sight.rules.speed_from refl class })
     (ap (λ items. new_queue (with_planet sight at new) (Planet at) Yard (items ++ item ∷ [])) is)
-batch-change sight player req at kind count account planet (first ∷ later) own some known is room few lone =
+batch-change sight player req at kind count account planet (first ∷ later) own some class known is room few lone =
     let new = pays_batch planet kind count in
     let item = ordered sight (Planet at) Yard at kind count in
     joined (with_planet sight at new) item (planet-alike sight at planet new own.there (refl, refl)) (planet-steady sight at planet new own.there refl refl refl)
@@ -237,7 +252,8 @@ batch-change sight player req at kind count account planet (first ∷ later) own
       paced = λ none yard. some-before first later _ is none;
       room = room-seen _ _ is room;
       few = λ yard. few;
-      allowed = allowed-batch item (owns sight.seen (Planet at)) planet _ _ own.there is lone;
+      allowed = allowed-batch item (owns sight.seen (Planet at)) planet _ _ own.there is (lone, (refl, refl, refl));
+      fresh = fresh-waits sight.moment item class (refl, refl, refl);
     })
     (ap (λ items. new_queue (with_planet sight at new) (Planet at) Yard (items ++ item ∷ [])) is)
 
@@ -381,6 +397,7 @@ pub record GoesTo (player : Player) (errand : Errand) (target : Own) : Type 0 wh
   pub reaches : target ≡ of_planet to
   pub is_deployed : errand.mission ≡ Deploy → to.owner ≡ player
   pub elsewhere : same_cell (Planet errand.from) (Planet errand.to) ≡ false
+  pub suited : suits errand.mission (same_player to.owner player) errand.ships ≡ true
 
 deployed-own : (mission : Mission) (b : Bool) (ships : List ℕ) → mission ≡ Deploy → suits mission b ships ≡ true → b ≡ true
 deployed-own Deploy b ships is suits = suits
@@ -396,6 +413,7 @@ goes-to player errand (of_planet planet) goes =
       reaches = refl;
       is_deployed = λ is. player-from planet.owner player (deployed-own errand.mission (same_player planet.owner player) errand.ships is both.1);
       elsewhere = not-true (same_cell (Planet errand.from) (Planet errand.to)) both.0;
+      suited = both.1;
     }
 goes-to player errand of_nothing goes = never false goes refl
 goes-to player errand (of_account account) goes = never false goes refl
@@ -465,9 +483,9 @@ leaves-so : (sight : Sight) (player : Player) (errand : Errand) (account : Accou
     → IsOwn sight player errand.from account planet → has_ships planet.units errand.ships ≡ true → can_go player errand (own_seen sight (Planet errand.to)) ≡ true → sight.moment < second
     → IsGrouped (sight.seen (Planet errand.to)).fleets (leaving sight player errand account group second)
     → (group ≡ sight.number) ⊎ (length (companions errand.to group (sight.seen (Planet errand.to)).fleets) < MOST_IN_GROUP)
-    → HasFit sight player errand account
+    → HasFit sight player errand account → (is_attack errand.mission ≡ false → group ≡ sight.number) → (1 ≤ sight.number → 1 ≤ group)
     → IsSent sight player (with_planet sight errand.from (departed account planet errand)) (leaving sight player errand account group second)
-leaves-so sight player errand account planet group second kinds own has goes later grouped room fit =
+leaves-so sight player errand account planet group second kinds own has goes later grouped room fit lone drawn =
     let target = own_seen sight (Planet errand.to) in
     let to = goes-to player errand target goes in
     let theirs = owner-there player target to.to to.reaches in
@@ -481,6 +499,12 @@ leaves-so sight player errand account planet group second kinds own has goes lat
       gone = departed-sum account planet errand has;
       built = departed-built account planet errand;
       loaded = (some-ships errand.ships fit.some, cargo-fits account errand fit.cargo);
+      errand = λ numbered. record {
+        elsewhere = to.elsewhere;
+        suited = subst (λ (k : Player). suits errand.mission (same_player k player) errand.ships ≡ true) theirs to.suited;
+        alone = lone;
+        grouped = drawn numbered;
+      };
       slot = fit.slot;
       to = to.to;
       reaches = to.reaches;
@@ -488,6 +512,7 @@ leaves-so sight player errand account planet group second kinds own has goes lat
       number = refl;
       owner = refl;
       kinds = kinds;
+      launched = refl;
       later = later;
       runs = later;
       is_deployed = λ is. sym theirs ∙ to.is_deployed is;
@@ -500,9 +525,10 @@ sends-change : (sight : Sight) (player : Player) (req : Request) (errand : Erran
     → Changes sight player req (sends sight player errand account planet).change
 sends-change sight player req errand account planet kinds own has goes fit =
     let least = flight-least sight.rules.speed account errand sight.rules.speed_from in
+    let most = errand-most sight.rules.speed account errand sight.rules.speed_from in
     let second = sight.moment + seconds_to sight.rules.speed account errand in
     dispatched (with_planet sight errand.from (departed account planet errand)) (leaving sight player errand account sight.number second)
-    (leaves-so sight player errand account planet sight.number second kinds own has goes (omega (arith, least)) (alone refl) (inl refl) fit) refl
+    (leaves-so sight player errand account planet sight.number second kinds own has goes (omega (arith, least)) (alone refl (omega (arith, most))) (inl refl) fit (λ other. refl) (λ numbered. numbered)) refl
 
 -- why a fleet that joins a raid isn't refused
 pub record MayJoin (sight : Sight) (player : Player) (errand : Errand) (account : AccountFields) (planet : PlanetFields) (raid : List Fleet) (fleets companions : ℕ) : Type 0 where
@@ -553,15 +579,15 @@ raid-leads at group fleets (first ∷ later) fleet is some target grouped second
 
 joins-change : (sight : Sight) (player : Player) (req : Request) (group : ℕ) (errand : Errand) (account : AccountFields) (planet : PlanetFields) → length errand.ships ≡ length SHIPS
     → IsOwn sight player errand.from account planet → MayJoin sight player errand account planet (raiders_seen sight errand.to group) (length (own_fleets player (sight.seen (Account player)).fleets)) (length (companions_seen sight errand.to group))
-    → HasFit sight player errand account → Changes sight player req (joins_raid sight player group errand account planet).change
-joins-change sight player req group errand account planet kinds own may fit =
+    → HasFit sight player errand account → is_attack errand.mission ≡ true → 1 ≤ group → Changes sight player req (joins_raid sight player group errand account planet).change
+joins-change sight player req group errand account planet kinds own may fit attack drawn =
     let least = flight-least sight.rules.speed account errand sight.rules.speed_from in
     let raid = raiders_seen sight errand.to group in
     let in_time = may.in_time in
     let fleet = leaving sight player errand account group (arrival_of raid) in
     dispatched (with_planet sight errand.from (departed account planet errand)) fleet
     (leaves-so sight player errand account planet group (arrival_of raid) kinds own may.has may.goes (omega (arith, least, in_time))
-    (raid-leads errand.to group (sight.seen (Planet errand.to)).fleets raid fleet refl may.some refl refl refl) (inr may.room) fit) refl
+    (raid-leads errand.to group (sight.seen (Planet errand.to)).fleets raid fleet refl may.some refl refl refl) (inr may.room) fit (λ other. never (is_attack errand.mission) attack other) (λ numbered. drawn)) refl
 
 recalls_at : (sight : Sight) (player : Player) (number : FleetNumber) (fleet : Fleet) (b : Bool) → fleet.outbound ≡ b → IsFleetOf player number.f (sight.seen (Account player)).fleets fleet
     → Changes sight player (Recall number)
@@ -583,20 +609,20 @@ outcome-changes sight player (Build at building) =
     let items = queue_seen sight (Planet at) Buildings in
     unless-refused sight player (Build at building) (build_refusal account planet items building.kind) (queues sight at building.kind planet items) (λ none.
     let room = build-room account planet items building.kind none in
-    queues-change sight player (Build at building) at building.kind account planet items own refl room.0 (room.1, room.2)))
+    queues-change sight player (Build at building) at building.kind account planet items own building.class refl room.0 (room.1, room.2)))
 outcome-changes sight player (Research at technology) =
     at-own sight player (Research at technology) at (researches sight player at technology.kind) (λ account planet own.
     let items = queue_seen sight (Account player) Researches in
     unless-refused sight player (Research at technology) (research_refusal sight.rules.speed account planet items technology.kind) (queues_research sight player at technology.kind account planet items) (λ none.
     let room = research-room sight.rules.speed account planet items technology.kind none in
-    research-change sight player (Research at technology) at technology.kind account planet items own refl room.0 room.1))
+    research-change sight player (Research at technology) at technology.kind account planet items own technology.class refl room.0 room.1))
 outcome-changes sight player (YardOf at unit count) =
     at-own sight player (YardOf at unit count) at (yards sight player at unit.kind count.n) (λ account planet own.
     let batches = queue_seen sight (Planet at) Yard in
     let units = (sight.seen (Account player)).units in
     unless-refused sight player (YardOf at unit count) (yard_refusal account units planet batches unit.kind count.n) (queues_batch sight at unit.kind count.n planet batches) (λ none.
     let room = yard-room account units planet batches unit.kind count.n none in
-    batch-change sight player (YardOf at unit count) at unit.kind count.n account planet batches own count.from (unit-place unit.kind unit.class) refl room.0 room.1 room.2))
+    batch-change sight player (YardOf at unit count) at unit.kind count.n account planet batches own count.from unit.class (unit-place unit.kind unit.class) refl room.0 room.1 room.2))
 outcome-changes sight player (Set at work tenths) =
     at-own sight player (Set at work tenths) at (sets sight at work.kind tenths.n) (λ account planet own. fields (with_planet sight at _) (planet-alike sight at planet _ own.there (refl, refl)) (planet-steady sight at planet _ own.there refl refl refl) refl)
 outcome-changes sight player Fleets = account-change sight player Fleets (own_seen sight (Account player)) (tells_fleets sight player) (λ account. nothing refl)
@@ -624,4 +650,4 @@ outcome-changes sight player (Join group from to setting ships cargo) =
     let companions = length (companions_seen sight to group.f) in
     unless-refused sight player req (join_refusal sight.rules.speed sight.moment player account fleets planet target errand raid companions) (joins_raid sight player group.f errand account planet) (λ none.
     let may = may-join sight player errand account planet raid fleets companions none in
-    joins-change sight player req group.f errand account planet ships.kinds own may (record { some = ships.some; slot = may.slot; cargo = may.cargo })))
+    joins-change sight player req group.f errand account planet ships.kinds own may (record { some = ships.some; slot = may.slot; cargo = may.cargo }) refl group.from))

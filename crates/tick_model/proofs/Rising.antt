@@ -13,7 +13,7 @@ use Rattle.catalog.specs.declared.kind.Kind.{Kind}
 use Rattle.catalog.specs.declared.kind.Kind.TheVariants.{Computer}
 use Rattle.tick_model.specs.Buildings.{Works, can_pay, done, next_price, pays, raised, started, starts_first}
 use Rattle.tick_model.specs.Changes.{put_own}
-use Rattle.tick_model.specs.Limits.{KeepsLevels, KeepsTechs, ordered_units}
+use Rattle.tick_model.specs.Limits.{KeepsLevels, KeepsTechs, OthersWait, Rises, Waits, ordered_units}
 use Rattle.tick_model.specs.Lines.{slots_of}
 use Rattle.tick_model.specs.Production.{level_of}
 use Rattle.tick_model.specs.Refusals.{is_dome, queued, used_fields}
@@ -24,6 +24,7 @@ use Rattle.tick_model.proofs.Ends.{buildings-start, research-starts}
 use Rattle.tick_model.proofs.Lists.{cell-is, cell-itself}
 use Rattle.tick_model.proofs.LimitsOwn.{IsKept, kept-queues, kept-steady, level-same, levels-queues, used-same}
 use Rattle.tick_model.proofs.Raising.{batch_units, building-place, dome-place, follows-queued, follows-shorter, one_if, ordered-first, queued-first, raised-least, raised-most, raised-sum, technology-place}
+use Rattle.tick_model.proofs.Waiting.{building-rises, research-rises, rises-same, yard-waits}
 use Rattle.tick_model.proofs.Steady.{IsBuiltAlike, IsSteady, same, SlotsStay, built-itself, built-then, one-account, one-planet, put-steady, slots-then, steady-itself, steady-planet, steady-slots, steady-then, units-alike}
 
 -- A building.
@@ -38,7 +39,7 @@ starts-built speed second planet (item ∷ later) =
       | false ↦ starts-built speed second planet later
     ]
 
-raised-level : (planet : PlanetFields) (k kind : Kind) → is_building kind ≡ true → level_of (raised planet k) kind ≤ level_of planet kind + one_if k kind
+pub raised-level : (planet : PlanetFields) (k kind : Kind) → is_building kind ≡ true → level_of (raised planet k) kind ≤ level_of planet kind + one_if k kind
 unfolding raised level_of
 raised-level planet k kind is = raised-most BUILDINGS planet.levels k kind (building-place kind is)
 
@@ -88,6 +89,8 @@ built-levels speed item later planet old new was now yard keeps =
           let same = ap (ordered_units kind) yard in
           let before = keeps.domed kind is in
           omega (arith, fewer, counts, same, before);
+      rising = subst (Rises (level_of works.planet)) (sym now) (building-rises speed item.second up later (subst (Rises (level_of planet)) was keeps.rising).1);
+      waiting = subst OthersWait (sym yard) keeps.waiting;
     }
 
 pub built-kept : (speed : ℕ) (item : Item) (later : List Item) (own : Own) (old new : QueueClass → List Item) → old Buildings ≡ item ∷ later → new Buildings ≡ (done speed item later own).queue
@@ -131,7 +134,7 @@ starts-steady speed second account own (item ∷ later) x =
       | false ↦ starts-steady speed second account own later x
     ]
 
-learned-level : (account : AccountFields) (k kind : Kind) → is_technology kind ≡ true → level_in (learned account k).techs.n kind ≤ level_in account.techs.n kind + one_if k kind
+pub learned-level : (account : AccountFields) (k kind : Kind) → is_technology kind ≡ true → level_in (learned account k).techs.n kind ≤ level_in account.techs.n kind + one_if k kind
 unfolding learned
 learned-level account k kind is = raised-most TECHNOLOGIES account.techs.n k kind (technology-place kind is)
 
@@ -148,16 +151,21 @@ research-steady speed item later own (of_account account) x apart =
 
 learned-kept : (speed : ℕ) (item : Item) (later : List Item) (account : AccountFields) (put : CellId → Own) (old new : QueueClass → List Item) → old Researches ≡ item ∷ later
     → new Researches ≡ (starts_first_research speed item.second (learned account item.kind) put later).queue → KeepsTechs account (old Researches) → KeepsTechs (learned account item.kind) (new Researches)
-learned-kept speed item later account put old new was now keeps kind is =
+learned-kept speed item later account put old new was now keeps =
     let up = learned account item.kind in
     let came = starts_first_research speed item.second up put later in
-    let rises = learned-level account item.kind kind is in
-    let left = follows-queued kind later came.queue (research-starts speed item.second up put later).0.follows in
-    let first = queued-first kind item later in
-    let before = keeps kind is in
-    let old_is = ap (queued kind) was in
-    let new_is = ap (queued kind) now in
-    omega (arith, rises, left, first, before, old_is, new_is)
+    record {
+      capped = λ kind is.
+          let rises = learned-level account item.kind kind is in
+          let left = follows-queued kind later came.queue (research-starts speed item.second up put later).0.follows in
+          let first = queued-first kind item later in
+          let before = keeps.capped kind is in
+          let old_is = ap (queued kind) was in
+          let new_is = ap (queued kind) now in
+          omega (arith, rises, left, first, before, old_is, new_is);
+      rising = subst (Rises (level_in up.techs.n)) (sym now)
+          (research-rises speed item.second up put later (subst (Rises (level_in account.techs.n)) was keeps.rising).1);
+    }
 
 pub research-kept : (speed : ℕ) (item : Item) (later : List Item) (own : CellId → Own) (caller : Own) (old new : QueueClass → List Item) → own item.cell ≡ caller → old Researches ≡ item ∷ later
     → new Researches ≡ (researched speed item later own caller).queue → new Buildings ≡ old Buildings → new Yard ≡ old Yard → IsKept (own item.cell) old
@@ -266,6 +274,9 @@ unit-kept speed batch later (of_planet planet) old new some was now buildings re
           let new_is = ap (ordered_units kind) now in
           let before = keeps.domed kind is in
           omega (arith, more, left, old_is, new_is, before);
+      rising = subst (Rises (level_of up)) (sym buildings)
+          (rises-same (level_of planet) (level_of up) (old Buildings) (λ kind. level-same planet up kind (sym else_is.0)) keeps.rising);
+      waiting = subst OthersWait (sym now) (yard-waits speed planet batch later (subst OthersWait was keeps.waiting));
     } in
     record { levelled = λ p is. subst (λ x. KeepsLevels x new) (one-planet up p is) levels; learned = λ account is. absurd cc }
 

@@ -51,7 +51,7 @@ with-new setting u t new fine is_new =
     ])
 
 -- each item after an order stood before, or is the new one
-of-old : (u : State) (new item : Item)
+pub of-old : (u : State) (new item : Item)
     → IsIn item (filter (λ item. not (stands_in new.cell new.class item)) u.items ++ (queue_in u.items new.cell new.class ++ new ∷ [])) → IsIn item u.items ⊎ (item ≡ new)
 of-old u new item is =
     elim (in-append item (filter (λ item. not (stands_in new.cell new.class item)) u.items) (queue_in u.items new.cell new.class ++ new ∷ []) is) [
@@ -113,7 +113,7 @@ numbered setting u fine = record {
 }
 
 -- a fleet flew before, or is the new one
-new-or-old : {A : Type 0} (u : State) (new fleet : Fleet) → IsIn fleet (u.fleets ++ new ∷ []) → (IsIn fleet u.fleets → A) → (fleet ≡ new → A) → A
+pub new-or-old : {A : Type 0} (u : State) (new fleet : Fleet) → IsIn fleet (u.fleets ++ new ∷ []) → (IsIn fleet u.fleets → A) → (fleet ≡ new → A) → A
 new-or-old u new fleet has old one =
     elim (in-append fleet u.fleets (new ∷ []) has) [
       | inl before ↦ old before
@@ -139,7 +139,7 @@ recalled-out t old new false becomes out = cc
 
 -- a new fleet arrives with those of its group
 joins-group : (setting : Setting) (u : State) (t : ℕ) (new a : Fleet) → KeepsRules setting u → IsNewFleet u t new → IsIn a u.fleets → IsGrouped u.fleets new → ArriveTogether a new
-joins-group setting u t new a fine is_new has (alone is) out_a out_new group =
+joins-group setting u t new a fine is_new has (alone is most) out_a out_new group =
     let low = (fine.flying a has).grouped in
     let earlier = fine.sent a has in
     let number = is_new.number in

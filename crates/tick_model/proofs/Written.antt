@@ -31,6 +31,7 @@ use Rattle.tick_model.proofs.Owns.{IsAlike, Stays, alike-holding, alike-itself, 
 use Rattle.tick_model.proofs.Raids.{coord-from, target-belongs}
 use Rattle.tick_model.proofs.Queues.{queue-other, queued-in, stands-there}
 use Rattle.tick_model.proofs.Staying.{AllStay}
+use Rattle.tick_model.proofs.Timing.{IsFresh}
 use Rattle.tick_model.proofs.Writes.{IsWithin, OwnsWithin, owns_after, shown-own, with_fleet, with_owns, with_queue, with_sent, within-fleet, within-owns, within-queue, within-sent, write-fleet, write-nothing, write-owns, write-queue, write-sent}
 
 -- a new item: it bears the next number and is in the queue of the right cell; and if none is before it, it comes due after this
@@ -40,6 +41,7 @@ pub record IsNew (state : State) (moment : ℕ) (item : Item) : Type 0 where
   pub placed : IsPlaced state item
   pub runs : queue_in state.items item.cell item.class ≡ [] → moment < item.second
   pub paced : queue_in state.items item.cell item.class ≡ [] → item.class ≡ Yard → 1 ≤ item.unit_seconds
+  pub fresh : IsFresh moment item
 
 -- what cells have of their own stays alike
 abbrev pub AllAlike : State → (CellId → Own) → Type 0
@@ -49,6 +51,7 @@ AllAlike state own = (x : CellId) → IsAlike (state.own x) (own x)
 pub record IsNewFleet (state : State) (moment : ℕ) (fleet : Fleet) : Type 0 where
   pub number : fleet.number ≡ state.number + 1
   pub flying : IsFlying state fleet
+  pub launched : fleet.launch ≡ moment
   pub runs : moment < fleet.second
   pub grouped : IsGrouped state.fleets fleet
   pub room : length (outbound_in fleet.group state.fleets) < MOST_IN_GROUP
@@ -136,6 +139,7 @@ new-there setting a t u item new =
       placed = record { planet = there.planet; stands = there.stands; cell = new.cell ∙ ap (queue_cell item.class item.place) (sym there.owner); batch = new.batch };
       runs = λ none. new.runs (queue ∙ none);
       paced = λ none yard. new.paced (queue ∙ none) yard;
+      fresh = new.fresh;
     }
 
 -- the queue with a new item is of that queue
@@ -260,13 +264,13 @@ module _ (setting : Setting) (a : Entry) (t : ℕ) (S : CellId → Bool) (u : St
 
     -- its group flies
     among-flying : IsGrouped (shown cells (view setting.cells u) (Planet fleet.target)).fleets fleet → IsGrouped u.fleets fleet
-    among-flying (alone is) = alone is
+    among-flying (alone is most) = alone is most
     among-flying (along leader within out group target second) =
         let seen = subst (λ (v : View). IsIn leader v.fleets) (shown-there cells (view setting.cells u) (Planet fleet.target) target-there.0) within in
         along leader (flies-in setting.cells u (Planet fleet.target) leader seen) out group target second
 
     group-at : IsGrouped u.fleets fleet → fleet.group ≤ fleet.number
-    group-at (alone is) = omega (arith, is)
+    group-at (alone is most) = omega (arith, is)
     group-at (along leader within out group target second) =
         let low = (fine.flying leader within).grouped in
         let earlier = fine.sent leader within in
@@ -299,7 +303,7 @@ module _ (setting : Setting) (a : Entry) (t : ℕ) (S : CellId → Bool) (u : St
     group-room : IsGrouped u.fleets fleet → (fleet.group ≡ fleet.number) ⊎ (length (companions fleet.target fleet.group (shown cells (view setting.cells u) (Planet fleet.target)).fleets) < MOST_IN_GROUP)
         → length (outbound_in fleet.group u.fleets) < MOST_IN_GROUP
     group-room grouped (inl same) = let none : length (outbound_in fleet.group u.fleets) ≡ 0 = ap length (none-grouped same) in omega (arith, none)
-    group-room (alone is) (inr room) = let none : length (outbound_in fleet.group u.fleets) ≡ 0 = ap length (none-grouped is) in omega (arith, none)
+    group-room (alone is most) (inr room) = let none : length (outbound_in fleet.group u.fleets) ≡ 0 = ap length (none-grouped is) in omega (arith, none)
     group-room (along leader within out group target second) (inr room) =
         let seen = shown-there cells (view setting.cells u) (Planet fleet.target) target-there.0 in
         subst (λ fleets. length fleets < MOST_IN_GROUP) (ap (λ (v : View). companions fleet.target fleet.group v.fleets) seen ∙ companions-all leader within out group target) room
@@ -360,7 +364,7 @@ module _ (setting : Setting) (a : Entry) (t : ℕ) (S : CellId → Bool) (u : St
         owners = λ x has. stays-owner (owns (shown cells (view setting.cells u)) x) (own x) (departs-stays x) ∙ ap owner_of (shown-own setting.cells cells u x has);
         counted = λ x has. either-reached cells S u (with_sent (owns_after cells own u) fleet u) x covers (departs-counted x);
       }) flies-inside;
-      makes = sent (owns_after cells own u) fleet departs-after (record { number = new.number; flying = new-flies; runs = new.runs; grouped = among-flying new.grouped; room = group-room (among-flying new.grouped) new.room }) (write-sent cells own fleet u);
+      makes = sent (owns_after cells own u) fleet departs-after (record { number = new.number; flying = new-flies; launched = new.launched; runs = new.runs; grouped = among-flying new.grouped; room = group-room (among-flying new.grouped) new.room }) (write-sent cells own fleet u);
     }
 
   -- A fleet that is recalled.

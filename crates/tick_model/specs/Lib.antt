@@ -16,6 +16,7 @@ pub mod Requests
 pub mod Step
 pub mod Rules
 pub mod Limits
+pub mod Moments
 pub mod Game
 pub mod World
 pub mod History

@@ -1,10 +1,11 @@
-ghost use Rattle.std.specs.Prelude.{◌≡◌, ℕ, ◌≤◌, List, [], ◌∷◌, ◌++◌, Bool};
+ghost use Rattle.std.specs.Prelude.{◌≡◌, ℕ, ◌≤◌, ◌<◌, ◌^◌, List, [], ◌∷◌, ◌++◌, Bool};
 ghost use Rattle.laziness.specs.Laws.{ModelLaws};
 ghost use Rattle.request_text.specs.declared.entry.Entry.{Entry};
 ghost use Rattle.tick_model.specs.Game.{game};
 ghost use Rattle.tick_model.specs.History.{IsLegal, MayFollow};
 ghost use Rattle.tick_model.specs.Keeping.{AnswersEntry, IsFounded, KeepsHistory};
 ghost use Rattle.tick_model.specs.Limits.{KeepsLimits};
+ghost use Rattle.tick_model.specs.Moments.{KeepsTime};
 ghost use Rattle.tick_model.specs.Standing.{Stands, last_moment, last_number};
 ghost use Rattle.tick_model.specs.Talk.{Talk};
 ghost use Rattle.tick_model.specs.Universe.{Setting, Universe};
@@ -45,11 +46,18 @@ pub fn worlds_are_founded()
         → last_moment base.moment history ≤ moment → IsFounded (world base history moment) }
 {}
 
-/// If the base of a history keeps the limits on queues, units, levels, fields, domes, loads and fleets, so does the universe that
-/// ticks, at every moment from the last entry's on.
+/// If the base of a history keeps the limits on queues, units, levels, fields, domes and fleets, so does the universe that ticks, at
+/// every moment from the last entry's on. Queues stay as requests and events make them, and fleets keep their loads and errands.
 pub fn worlds_keep_limits()
     ensures { (base : Universe) (history : List Entry) (moment : ℕ) → IsFounded base → KeepsLimits base.setting base.state → IsLegal base history
         → last_moment base.moment history ≤ moment → KeepsLimits base.setting (world base history moment).state }
+{}
+
+/// If besides each item and each fleet of the base has its time, so it is in the universe that ticks, at every such moment before
+/// second 2^40: what runs ends before second 2^42, and each fleet was sent by the moment and lands before second 2^42.
+pub fn worlds_keep_time()
+    ensures { (base : Universe) (history : List Entry) (moment : ℕ) → IsFounded base → KeepsLimits base.setting base.state → KeepsTime base.moment base.state
+        → IsLegal base history → last_moment base.moment history ≤ moment → moment < 2 ^ 40 → KeepsTime moment (world base history moment).state }
 {}
 
 /// A reply bears the number and the moment of its entry.

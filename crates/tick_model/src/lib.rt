@@ -15,7 +15,7 @@ pub use codes::{
 pub use debris::{Debris, RECYCLER_ROOM};
 pub use laws::{
     answer_once, entries_are_answered, game_is_lawful, histories_are_kept, replies_are_numbered,
-    worlds_are_founded, worlds_keep_limits,
+    worlds_are_founded, worlds_keep_limits, worlds_keep_time,
 };
 pub use placed::Placed;
 pub use rules::Rules;

@@ -1,6 +1,7 @@
 use Rattle.base_bytes.proofs.Limited.{keeps-limits}
 use Rattle.base_bytes.proofs.Seen.{account-shown, fleets-in-order, nothing-shown, planet-shown}
 use Rattle.base_bytes.proofs.Bases.{sound-base}
+use Rattle.base_bytes.proofs.Timed.{keeps-time}
 use Rattle.base_bytes.proofs.laws.stands_for_a_universe.Goals as goal
 
 pub returns-clause-base : goal.returns-clause-base
@@ -20,3 +21,6 @@ returns-clause-fleets c = fleets-in-order
 
 pub returns-clause-limits : goal.returns-clause-limits
 returns-clause-limits c = keeps-limits
+
+pub returns-clause-time : goal.returns-clause-time
+returns-clause-time c = keeps-time
