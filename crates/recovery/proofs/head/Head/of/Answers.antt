@@ -1,0 +1,12 @@
+use Rattle.std.proofs.Common.{refl, ap, ◌∙◌}
+use Rattle.recovery.proofs.Heads.{digest-is}
+use Rattle.recovery.proofs.head.Head.of.Goals as goal
+
+pub returns : goal.returns
+returns c = record {
+  generation_is = refl;
+  size_is = refl;
+  digest_is =
+      digest-is c.args.generation c.args.base.now c.to_be_bytes.result c.to_be_bytes-2.result c.finalize-digest.result c.to_be_bytes.ensures c.to_be_bytes-2.ensures
+      (c.finalize-digest.ensures _ (c.update-4.ensures _ (c.update-3.ensures _ (c.update-2.ensures _ (c.update.ensures _ c.new-hasher.ensures)))));
+}
