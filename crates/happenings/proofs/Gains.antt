@@ -2,12 +2,11 @@
 use Rattle.std.proofs.Math.Path.{fun_ext}
 use Rattle.account_cell.specs.Account.{AreSame as AreSameAccounts, account_queue, research_item, research_of}
 use Rattle.account_cell.specs.declared.account.Account.{Account}
-use Rattle.std.proofs.Common.{◌≡◌, ℕ, ◌-◌, ◌≤◌, zero, suc, cond, true, refl, ap, ◌∙◌, sym, subst, Option, Some, None}
-use Rattle.std.specs.Prelude.{IfSome, IsSome, is_some, option_map}
+use Rattle.std.proofs.Common.{◌≡◌, ℕ, ◌-◌, zero, suc, cond, true, refl, ap, ◌∙◌, sym, subst, Option, Some, None}
+use Rattle.std.specs.Prelude.{IfSome, is_some, option_map}
 use Rattle.std.specs.BTreeMap.{get}
 use Rattle.base_ids.specs.declared.cell_id.CellId.{CellId}
-use Rattle.base_ids.specs.declared.cell_id.CellId.TheVariants.{Planet as PlanetId}
-use Rattle.base_ids.specs.declared.coord.Coord.{Coord}
+use Rattle.base_ids.specs.declared.cell_id.CellId.TheVariants.{Account as AccountId, Planet as PlanetId}
 use Rattle.laziness.specs.Stamps.{Stamps, bring_to}
 use Rattle.planet_cell.specs.Planet.{AreSame, batch_item_of, batches_of, buildings_of, fields_of, item_of, queue_of}
 use Rattle.planet_cell.specs.declared.planet.Planet.{Planet}
@@ -18,14 +17,12 @@ use Rattle.tick_model.specs.Production.{cell_second, gains, planet_second}
 use Rattle.tick_model.specs.Universe.{of_account, of_planet, Buildings, Researches, Yard, QueueClass, Setting}
 use Rattle.tick_model.specs.declared.rules.Rules.{Rules}
 use Rattle.tick_model.proofs.Gains.{view-advanced}
-use Rattle.happenings.specs.Gaining.{AreBehind, Gains, GainsIn, gained, gained_at}
-use Rattle.happenings.specs.Held.{PicksFrom, ShowsCell, Stand, account_stand, held_at, holds, planet_stand}
-use Rattle.happenings.specs.Orders.{place_order}
-use Rattle.happenings.specs.Sights.{names_held}
+use Rattle.happenings.specs.Gaining.{AccountsGain, Gains, GainsIn, KeepNames, KeepPlaces, PlanetsGain, gained}
+use Rattle.happenings.specs.Held.{IsNamed, ShowsCell, Stand, account_stand, held_at, holds, planet_stand}
+use Rattle.happenings.specs.Orders.{place_order, player_order}
 use Rattle.happenings.specs.declared.held.AccountCell.{AccountCell}
 use Rattle.happenings.specs.declared.held.Held.{Held}
 use Rattle.happenings.specs.declared.held.PlanetCell.{PlanetCell}
-use Rattle.happenings.proofs.Copying.{picks_all}
 use Rattle.happenings.proofs.Standing.{planet_seen, seen-gains}
 
 -- accounts gain nothing
@@ -79,25 +76,27 @@ same_account one other second same flown =
     account-queue-same one other research Researches = research
     account-queue-same one other research Yard = refl
 
--- a planet that was copied and then gained
-pub planet_gained : (rules : Rules) (moment seconds : ℕ) (cell new : PlanetCell) (copy : Planet) → new.second ≡ moment → new.fleets ≡ cell.fleets → seconds ≡ moment - cell.second → AreSame cell.planet copy
-    → fields_of new.planet ≡ times seconds (planet_second rules.speed) (fields_of copy) → buildings_of new.planet ≡ buildings_of copy → batches_of new.planet ≡ batches_of copy
-    → planet_stand new ≡ gained rules moment (planet_stand cell)
-planet_gained rules moment seconds cell new copy stamp flown span same fields buildings yard =
-    let copied : PlanetCell = record { second = cell.second; planet = copy; fleets = cell.fleets } in
-    planet_gained_here rules moment seconds copied new stamp flown span fields buildings yard ∙ ap (gained rules moment) (sym (same_stand cell copied refl same refl))
+-- an account that comes to a moment has gained all that it gains
+stamped : (rules : Rules) (moment : ℕ) (o : Option AccountCell) → option_map (λ (stand : Stand). record stand { second = moment }) (option_map account_stand o) ≡ option_map (gained rules moment) (option_map account_stand o)
+stamped rules moment None = refl
+stamped rules moment (Some cell) = ap Some (account_gained rules moment cell (record cell { second = moment }) refl)
 
--- none of the planets that are held stands later than the moment
-pub planet_behind : (moment : ℕ) (held : Held) (at : Coord) (cell : PlanetCell) → AreBehind moment held → get place_order held.planets at ≡ Some cell → cell.second ≤ moment
-planet_behind moment held at cell behind found =
-    subst (λ (o : Option Stand). IfSome o (λ stand. stand.second ≤ moment)) (ap (option_map planet_stand) found) (behind (PlanetId at))
+-- the cells gained where the accounts and the planets did
+pub gains_all : (rules : Rules) (moment : ℕ) (old new : Held) → AccountsGain moment old.accounts new.accounts → PlanetsGain rules moment old.planets new.planets → Gains rules moment old new
+gains_all rules moment old new accounts planets (AccountId player) = accounts player ∙ stamped rules moment (get player_order old.accounts player)
+gains_all rules moment old new accounts planets (PlanetId at) = planets at
 
-seen-held : (rules : Rules) (moment : ℕ) (o : Option Stand) → IsSome (option_map (gained rules moment) o) → IsSome o
-seen-held rules moment None some = some
-seen-held rules moment (Some stand) some = refl
+named_still : {K X : Type 0} (name : X → K) (old new : Option X) (key : K) → option_map name new ≡ option_map name old → IfSome old (λ x. name x ≡ key) → IfSome new (λ x. name x ≡ key)
+named_still name old None key same named = tt
+named_still name None (Some y) key same named = absurd (cc same)
+named_still name (Some x) (Some y) key same named = let here : name y ≡ name x = cc in here ∙ named
 
-pub gains_all : (rules : Rules) (moment : ℕ) (old new : Held) → PicksFrom (gained_at rules moment old) (names_held old) new → Gains rules moment old new
-gains_all rules moment old new picks = picks_all old (gained_at rules moment old) new (λ cell. seen-held rules moment (held_at old cell)) picks
+-- and each is still kept under its own name
+pub names_kept : (old new : Held) → KeepNames old.accounts new.accounts → KeepPlaces old.planets new.planets → IsNamed old → IsNamed new
+names_kept old new names places named = record {
+  players = λ player. named_still (λ (cell : AccountCell). cell.account.player) (get player_order old.accounts player) (get player_order new.accounts player) player (names player) (named.players player);
+  places = λ at. named_still (λ (cell : PlanetCell). cell.planet.at) (get place_order old.planets at) (get place_order new.planets at) at (places at) (named.places at);
+}
 
 shows-gained : (setting : Setting) (f : Stamps (game setting)) (old : Held) (moment : ℕ) (cell : CellId) (o : Option Stand) → held_at old cell ≡ o → IfSome o (ShowsCell setting f cell)
     → IfSome (option_map (gained setting.rules moment) o) (ShowsCell setting (bring_to (game setting) (holds old) moment f) cell)

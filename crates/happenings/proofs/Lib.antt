@@ -2,6 +2,7 @@ pub mod Keys
 pub mod Standing
 pub mod Putting
 pub mod Copying
+pub mod Walked
 pub mod Gains
 pub mod Firsts
 pub mod Acting

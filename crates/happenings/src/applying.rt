@@ -43,25 +43,11 @@ pub fn apply(
 }
 
 impl PlanetCell {
-    ghost use Rattle.std.specs.Prelude.{◌≡◌, ◌-◌, ◌≤◌};
+    ghost use Rattle.std.specs.Prelude.{◌≡◌, ◌≤◌};
     ghost use Rattle.happenings.specs.Applying.{fields_then};
-    ghost use Rattle.happenings.specs.Gaining.{gained};
-    ghost use Rattle.happenings.specs.Held.{planet_stand};
     ghost use Rattle.planet_cell.specs.Planet.{batches_of, buildings_of};
     ghost use Rattle.planet_cell.specs.Queue.{Runs, built_of, finished};
     ghost use Rattle.planet_cell.specs.Yard.{Builds, built, unit_finished, yard_of};
-
-    /// The planet gains until a second.
-    #[tactic(auto, using(crate::proofs::Gains::planet_gained_here))]
-    pub(crate) fn gain_to(&mut self, rules: &Rules, second: u64)
-        requires { self.old.second ≤ second }
-        ensures stand { planet_stand self.new ≡ gained rules.now second (planet_stand self.old) }
-        ensures fleets { self.new.fleets ≡ self.old.fleets }
-        ensures at { self.new.planet.at ≡ self.old.planet.at }
-    {
-        self.planet.advance(second - self.second, rules.speed);
-        self.second = second;
-    }
 
     /// The building that runs is done at a second.
     fn finish_building(&mut self, rules: &Rules, second: u64)

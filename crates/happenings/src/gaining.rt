@@ -1,47 +1,44 @@
 ghost use Rattle.std.specs.Prelude.{◌≡◌};
+ghost use Rattle.happenings.specs.Gaining.{AccountsGain, KeepNames, KeepPlaces, PlanetsGain};
 
 use crate::held::{AccountCell, Held, PlanetCell};
-use base_ids::CellId;
+use base_ids::{Coord, Player};
 use std::alloc::{AllocError, Global};
+use std::collections::BTreeMap;
 use tick_model::Rules;
 
-impl AccountCell {
-    ghost use Rattle.std.specs.Prelude.{◌≡◌, IfOk};
-    ghost use Rattle.happenings.specs.Held.{account_stand};
-
-    /// The account at a later second, in memory of its own. Accounts gain nothing.
-    fn gained(&self, moment: u64) -> Result<AccountCell, AllocError>
-        ensures stand { IfOk result (λ cell. account_stand cell ≡ record (account_stand self.now) { second = moment }) }
-        ensures player { IfOk result (λ cell. cell.account.player ≡ self.now.account.player) }
-    {
-        let mut cell = self.copy()?;
-        cell.second = moment;
-        Ok(cell)
-    }
-}
-
 impl PlanetCell {
-    ghost use Rattle.std.specs.Prelude.{◌≡◌, ◌-◌, ◌≤◌, IfOk};
+    ghost use Rattle.std.specs.Prelude.{◌≡◌, IfOk};
     ghost use Rattle.happenings.specs.Held.{planet_stand};
     ghost use Rattle.happenings.specs.Gaining.{gained};
 
     /// The planet after it gained until a moment, in memory of its own.
     pub(crate) fn gained(&self, rules: &Rules, moment: u64) -> Result<PlanetCell, AllocError>
-        requires { self.now.second ≤ moment }
         ensures stand { IfOk result (λ cell. planet_stand cell ≡ gained rules.now moment (planet_stand self.now)) }
         ensures at { IfOk result (λ cell. cell.planet.at ≡ self.now.planet.at) }
     {
         let mut later = self.copy()?;
-        later.planet.advance(moment - self.second, rules.speed);
-        later.second = moment;
+        later.gain_to(rules, moment);
         Ok(later)
+    }
+
+    /// The planet gains until a second, and then stands there. From a later second on it gains nothing.
+    #[tactic(auto, using(crate::proofs::Gains::planet_gained_here))]
+    pub(crate) fn gain_to(&mut self, rules: &Rules, second: u64)
+        ensures stand { planet_stand self.new ≡ gained rules.now second (planet_stand self.old) }
+        ensures fleets { self.new.fleets ≡ self.old.fleets }
+        ensures at { self.new.planet.at ≡ self.old.planet.at }
+    {
+        let seconds = second.saturating_sub(self.second);
+        self.planet.advance(seconds, rules.speed);
+        self.second = second;
     }
 }
 
 impl Held {
-    ghost use Rattle.std.specs.Prelude.{IfOk, OnOk};
-    ghost use Rattle.happenings.specs.Gaining.{AreBehind, Gains, GainsIn, gained_at};
-    ghost use Rattle.happenings.specs.Held.{CopiesFrom, IsNamed};
+    ghost use Rattle.std.specs.Prelude.{IfOk};
+    ghost use Rattle.happenings.specs.Gaining.{AreBehind, Gains, GainsIn};
+    ghost use Rattle.happenings.specs.Held.{IsNamed};
 
     /// Copies of the cells, each after it gained until a moment, with no event. It fails only if memory runs out.
     pub fn gained(&self, alloc: Global, rules: &Rules, moment: u64) -> Result<Held, AllocError>
@@ -51,36 +48,41 @@ impl Held {
         ensures shows { IfOk result (GainsIn rules.now moment self.now) }
         ensures named { IfOk result IsNamed }
     {
-        let names = self.names(alloc)?;
-        let mut gained = Held::new(alloc);
-        'names: for name in &names {
-            self.gain_cell(*name, rules, moment, &mut gained)?;
-        }
+        let mut gained = self.copy(alloc)?;
+        gained.gain(rules, moment);
         Ok(gained)
     }
 
-    // Holds the cell there too, after it gained, if it is held here.
-    fn gain_cell(
-        &self,
-        name: CellId,
-        rules: &Rules,
-        moment: u64,
-        other: &mut Held,
-    ) -> Result<(), AllocError>
-        requires named { IsNamed self.now }
-        requires behind { AreBehind moment self.now }
-        ensures copies { OnOk result (CopiesFrom (gained_at rules.now moment self.now) name other.old other.new) }
-        ensures named { OnOk result (IsNamed other.old → IsNamed other.new) }
+    /// The cells gain until a moment, with no event. It takes no memory.
+    pub fn gain(&mut self, rules: &Rules, moment: u64)
+        requires { AreBehind moment self.old }
+        ensures gains { Gains rules.now moment self.old self.new }
+        ensures shows { GainsIn rules.now moment self.old self.new }
+        ensures named { IsNamed self.old → IsNamed self.new }
     {
-        match name {
-            CellId::Account(player) => match self.account(player) {
-                Some(cell) => other.put_account(cell.gained(moment)?),
-                None => Ok(()),
-            },
-            CellId::Planet(at) => match self.planet(at) {
-                Some(cell) => other.put_planet(cell.gained(rules, moment)?),
-                None => Ok(()),
-            },
-        }
+        gain_accounts(&mut self.accounts, moment);
+        gain_planets(&mut self.planets, rules, moment);
     }
+}
+
+/// The accounts come to a moment. They gain nothing.
+fn gain_accounts(accounts: &mut BTreeMap<Player, AccountCell>, moment: u64)
+    ensures gain { AccountsGain moment accounts.old accounts.new }
+    ensures named { KeepNames accounts.old accounts.new }
+{
+    accounts.retain(|_, cell| {
+        cell.second = moment;
+        true
+    });
+}
+
+/// The planets gain until a moment.
+fn gain_planets(planets: &mut BTreeMap<Coord, PlanetCell>, rules: &Rules, moment: u64)
+    ensures gain { PlanetsGain rules.now moment planets.old planets.new }
+    ensures named { KeepPlaces planets.old planets.new }
+{
+    planets.retain(|_, cell| {
+        cell.gain_to(rules, moment);
+        true
+    });
 }

@@ -1,13 +1,12 @@
-use Rattle.std.proofs.Common.{◌≡◌, ◌-◌, map, sum, refl, ap, ◌∙◌, sym, subst, None, Some}
+use Rattle.std.proofs.Common.{◌≡◌, ◌-◌, map, sum, refl, ap, ◌∙◌, sym, subst}
 use Rattle.std.specs.List.Sorted.{IsStrictlyIncreasing}
 use Rattle.std.specs.BTreeMap.{get}
 use Rattle.base_ids.specs.declared.cell_id.CellId.TheVariants.{Account as AccountId}
 use Rattle.fleet_rec.specs.Fleet.{fleet_seen}
 use Rattle.happenings.specs.Fighting.{AreOwnersHeld, AreRaiders, raid_in}
-use Rattle.happenings.specs.Held.{holds}
 use Rattle.happenings.specs.Orders.{place_order}
 use Rattle.tick_model.specs.Universe.{Fleet, PlanetFields}
-use Rattle.happenings.proofs.Fightable.{fought-so, owners-held, raid-here, raider-numbers, target-behind, target-found, target-held}
+use Rattle.happenings.proofs.Fightable.{fought-so, owners-held, raid-here, raider-numbers, target-found, target-held}
 use Rattle.happenings.proofs.Cargoes.{no-place}
 use Rattle.raids.specs.Leaving.{fleets_seen}
 use Rattle.tick_model.specs.Events.{fights, footprint}
@@ -25,9 +24,6 @@ raiders-requires-2 c =
     let one = fleet_seen c.args.one.now in
     subst (AreOwnersHeld c.args.self.now) (raid-here c.args.rules.now c.args.self.now one c.requires.fight c.in-Some.cell.now (sym c.in-Some.ensures.value) ∙ sym c.in_ok-raid.ensures)
     (owners-held c.args.rules.now c.args.self.now one c.requires.fight)
-
-pub gained-requires : goal.gained-requires
-gained-requires c = target-behind c.args.rules.now c.args.self.now (fleet_seen c.args.one.now) c.requires.fight c.in-Some.cell.now (sym c.in-Some.ensures.value)
 
 pub techs_of-techs-requires : goal.techs_of-techs-requires
 techs_of-techs-requires c =

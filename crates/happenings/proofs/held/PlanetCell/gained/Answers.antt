@@ -1,10 +1,9 @@
-use Rattle.std.proofs.Common.{◌-◌, refl}
-use Rattle.happenings.proofs.Gains.{planet_gained}
+use Rattle.std.proofs.Common.{ap, ◌∙◌, sym}
+use Rattle.happenings.specs.Gaining.{gained}
+use Rattle.happenings.proofs.Gains.{same_stand}
 use Rattle.happenings.proofs.held.PlanetCell.gained.Goals as goal
 
 pub returns-clause-stand : goal.returns-clause-stand
 returns-clause-stand c =
-    let old = c.args.self.now in
-    let copy = c.in_ok-later.later in
-    planet_gained c.args.rules.now c.args.moment (c.args.moment - old.second) old (record { second = c.args.moment; planet = c.advance.new.self; fleets = copy.fleets }) copy.planet refl c.in_ok-later.ensures.2 refl
-    c.in_ok-later.ensures.1 c.advance.ensures.fields c.advance.ensures.buildings c.advance.ensures.yard
+    let same = c.in_ok-later.ensures in
+    c.gain_to.ensures.stand ∙ ap (gained c.args.rules.now c.args.moment) (sym (same_stand c.args.self.now c.in_ok-later.later (sym same.0) same.1 (sym same.2)))
