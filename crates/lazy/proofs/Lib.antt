@@ -10,6 +10,7 @@ pub mod Texts
 pub mod Links
 pub mod Coursing
 pub mod Waiting
+pub mod Copied
 pub mod Outcoming
 pub mod Counting
 pub mod Showing

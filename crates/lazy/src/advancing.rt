@@ -25,10 +25,29 @@ pub fn advance(alloc: Global, rules: &Rules, cells: &Held, moment: u64) -> Resul
     ensures stand { IfOk result (StandAt moment) }
     ensures named { IfOk result IsNamed }
 {
-    let mut copies = cells.copy(alloc)?;
-    'events: while let Some(what) = copies.first_due(moment) {
-        apply(alloc, &mut copies, rules, what)?;
-        run_yards(alloc, &mut copies, rules, moment)?;
+    let copies = cells.copy(alloc)?;
+    bring(alloc, rules, copies, moment)
+}
+
+/// The cells themselves, brought to a moment as `advance` brings copies. It fails only if memory runs out.
+pub(crate) fn bring(
+    alloc: Global,
+    rules: &Rules,
+    mut cells: Held,
+    moment: u64,
+) -> Result<Held, AllocError>
+    requires can { (setting : Setting) × (f : Stamps (game setting)) × CanAdvance setting rules.now cells moment f }
+    requires named { IsNamed cells }
+    requires in_time { moment ≤ LATEST }
+    ensures advances { IfOk result (AdvancesIn rules.now cells moment) }
+    ensures same { IfOk result (HoldsSame cells) }
+    ensures stand { IfOk result (StandAt moment) }
+    ensures named { IfOk result IsNamed }
+{
+    'events: while let Some(what) = cells.first_due(moment) {
+        apply(alloc, &mut cells, rules, what)?;
+        run_yards(alloc, &mut cells, rules, moment)?;
     }
-    copies.gained(alloc, rules, moment)
+    cells.gain(rules, moment);
+    Ok(cells)
 }

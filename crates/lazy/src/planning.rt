@@ -11,7 +11,7 @@ ghost use Rattle.std.specs.Prelude.{option_map};
 ghost use Rattle.tick_model.specs.Game.{game};
 ghost use Rattle.tick_model.specs.Universe.{Setting};
 
-use crate::advancing::advance;
+use crate::advancing::bring;
 use crate::ordered::Ordered;
 use crate::taking::{from_place, put_parts, take_parts, to_place};
 use base_ids::Player;
@@ -82,7 +82,27 @@ pub fn prepare(
     ensures { IfOk result (λ plan. (setting : Setting) (f : Stamps (game setting))
         → CanAnswer setting rules.now places.now cells.now player req.now moment f → IsPlan setting cells.now player req.now moment f plan) }
 {
-    let mut cells = advance(alloc, rules, cells, moment)?;
+    let copies = cells.copy(alloc)?;
+    work_out(alloc, rules, places, copies, player, req, moment)
+}
+
+/// Works out a request as `prepare` does, on the cells themselves. It fails only if memory runs out.
+pub(crate) fn work_out(
+    alloc: Global,
+    rules: &Rules,
+    places: &Places,
+    cells: Held,
+    player: Player,
+    req: &Request,
+    moment: u64,
+) -> Result<Plan, AllocError>
+    requires can { (setting : Setting) × (f : Stamps (game setting)) × CanAnswer setting rules.now places.now cells player req.now moment f }
+    requires named { IsNamed cells }
+    requires in_time { moment ≤ LATEST }
+    ensures { IfOk result (λ plan. (setting : Setting) (f : Stamps (game setting))
+        → CanAnswer setting rules.now places.now cells player req.now moment f → IsPlan setting cells player req.now moment f plan) }
+{
+    let mut cells = bring(alloc, rules, cells, moment)?;
     let mut parts = take_parts(alloc, places, &cells, player, req)?;
     let from = from_place(player, &parts.fleets.caller, req);
     let to = to_place(player, &parts.fleets.caller, req);

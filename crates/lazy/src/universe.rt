@@ -11,7 +11,7 @@ ghost use Rattle.tick_model.specs.Universe.{Universe};
 
 use crate::beginning::{cells_of, places_of};
 use crate::dumping::text_of;
-use crate::planning::prepare;
+use crate::planning::work_out;
 use base_bytes::Base;
 use base_ids::Player;
 use base_text::Bytes;
@@ -82,15 +82,7 @@ impl LazyUniverse {
     {
         let moment = reading.max(self.moment);
         let cells = self.touched(alloc, player, req, moment)?;
-        let plan = prepare(
-            alloc,
-            &self.rules,
-            &self.places,
-            &cells,
-            player,
-            req,
-            moment,
-        )?;
+        let plan = work_out(alloc, &self.rules, &self.places, cells, player, req, moment)?;
         let (cells, reply) = plan.finish(self.number + 1);
         Ok(Prepared {
             cells,

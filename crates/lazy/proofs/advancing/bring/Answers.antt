@@ -1,22 +1,23 @@
-use Rattle.std.proofs.Common.{◌≤◌, ◌<◌, arith}
-use Rattle.happenings.specs.Gaining.{Gains, GainsIn}
+use Rattle.std.proofs.Common.{◌≤◌, ◌<◌, refl, arith}
 use Rattle.happenings.specs.Sights.{names_held}
-use Rattle.lazy.specs.Advancing.{AdvancesIn}
-use Rattle.lazy.proofs.Coursing.{AgreeThen, can-happen, course-advances, course-behind, course-falls, course-goes-on, course-runs, if-both}
+use Rattle.lazy.proofs.Coursing.{AgreeThen, can-happen, course-advances, course-behind, course-falls, course-goes-on, course-runs, starts-alike}
 use Rattle.lazy.proofs.Waiting.{happens_same, runs_no_more, waiting_in}
-use Rattle.lazy.proofs.advancing.advance.Goals as goal
+use Rattle.lazy.proofs.advancing.bring.Goals as goal
+
+pub events-init : goal.events-init
+events-init c = starts-alike c.args.rules.now c.args.cells c.args.cells c.args.moment (λ cell. refl) c.requires.named
 
 pub apply-requires-clause-can : goal.apply-requires-clause-can
 apply-requires-clause-can c =
     let known = c.requires.can in
-    can-happen AgreeThen c.args.rules.now c.args.cells.now c.events.copies c.args.moment c.events.invariant c.in-Some.what c.in-Some.ensures.shown
+    can-happen AgreeThen c.args.rules.now c.args.cells c.events.cells c.args.moment c.events.invariant c.in-Some.what c.in-Some.ensures.shown
     known.0 known.1 known.2 c.requires.in_time
 
 pub events-smaller : goal.events-smaller
 events-smaller c =
     let known = c.requires.can in
-    let held = c.args.cells.now in
-    let old = c.events.copies in
+    let held = c.args.cells in
+    let old = c.events.cells in
     let what = c.in-Some.what in
     let can = can-happen AgreeThen c.args.rules.now held old c.args.moment c.events.invariant what c.in-Some.ensures.shown known.0 known.1 known.2 c.requires.in_time in
     let after = c.apply.new.cells in
@@ -31,8 +32,8 @@ events-smaller c =
 pub events-preserved : goal.events-preserved
 events-preserved c =
     let known = c.requires.can in
-    let held = c.args.cells.now in
-    let old = c.events.copies in
+    let held = c.args.cells in
+    let old = c.events.cells in
     let what = c.in-Some.what in
     let after = c.apply.new.cells in
     let new = c.run_yards.new.cells in
@@ -41,12 +42,11 @@ events-preserved c =
     (happens_same c.args.rules.now what old after can c.in_ok-apply.ensures.happens) in
     course-runs c.args.rules.now held after c.args.moment course new c.in_ok-run_yards.ensures.runs c.in_ok-run_yards.ensures.named
 
-pub gained-requires-clause-behind : goal.gained-requires-clause-behind
-gained-requires-clause-behind c =
+pub gain-requires : goal.gain-requires
+gain-requires c =
     let known = c.requires.can in
-    course-behind AgreeThen c.args.rules.now c.args.cells.now c.events.copies c.args.moment c.events.invariant known.0 known.1 known.2
+    course-behind AgreeThen c.args.rules.now c.args.cells c.events.cells c.args.moment c.events.invariant known.0 known.1 known.2
 
 pub returns-clause-advances : goal.returns-clause-advances
 returns-clause-advances c =
-    if-both c.gained.result (Gains c.args.rules.now c.args.moment c.events.copies) (GainsIn c.args.rules.now c.args.moment c.events.copies) (AdvancesIn c.args.rules.now c.args.cells.now c.args.moment)
-    (course-advances c.args.rules.now c.args.cells.now c.events.copies c.args.moment c.events.invariant c.in_default.ensures.shown) c.gained.ensures.gains c.gained.ensures.shows
+    course-advances c.args.rules.now c.args.cells c.events.cells c.args.moment c.events.invariant c.in_default.ensures.shown c.gain.new.self c.gain.ensures.gains c.gain.ensures.shows

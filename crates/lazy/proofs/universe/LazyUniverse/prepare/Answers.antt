@@ -3,8 +3,8 @@ use Rattle.tick_model.specs.Keeping.{lazily_at}
 use Rattle.lazy.proofs.Preparing.{can-answer-at, prepared-at}
 use Rattle.lazy.proofs.universe.LazyUniverse.prepare.Goals as goal
 
-pub prepare-requires-clause-can : goal.prepare-requires-clause-can
-prepare-requires-clause-can c =
+pub work_out-requires-clause-can : goal.work_out-requires-clause-can
+work_out-requires-clause-can c =
     let lazy = c.args.self.now in
     let kept = c.requires.keeps in (
       kept.0.setting,
