@@ -3,7 +3,7 @@ use Rattle.std.proofs.Common.{◌≡◌, ◌⊎◌, inl, inr, ℕ, false, cond, 
 use Rattle.std.specs.Prelude.{Result, Ok, Err, OnErr, OnOk}
 use Rattle.command.specs.Statuses.{number_of, status_of}
 use Rattle.command.specs.declared.status.Stopped.{Stopped}
-use Rattle.command.specs.declared.status.Stopped.TheVariants.{NotACommand, SourceFault, SinkFault, NoMemory, TooLong, NotFounded}
+use Rattle.command.specs.declared.status.Stopped.TheVariants.{NotACommand, SourceFault, SinkFault, DiskFault, NoMemory, TooLong, AlreadyFounded, NotFounded}
 use Rattle.command.specs.declared.status.TheConstants.{DONE}
 
 -- two numbers that differ
@@ -12,23 +12,29 @@ other m n apart same = absurd (cc (apart, eq-eqb m n same))
 
 -- the reason that has a number
 named : ℕ → Stopped
-named n = cond (eqb n 2) NotACommand (cond (eqb n 4) SourceFault (cond (eqb n 5) SinkFault (cond (eqb n 7) NoMemory (cond (eqb n 9) TooLong NotFounded))))
+named n =
+    cond (eqb n 2) NotACommand (cond (eqb n 4) SourceFault (cond (eqb n 5) SinkFault (cond (eqb n 6) DiskFault
+    (cond (eqb n 7) NoMemory (cond (eqb n 9) TooLong (cond (eqb n 10) AlreadyFounded NotFounded))))))
 
 named_number : (s : Stopped) → named (number_of s) ≡ s
 unfolding named
 named_number NotACommand = refl
 named_number SourceFault = refl
 named_number SinkFault = refl
+named_number DiskFault = refl
 named_number NoMemory = refl
 named_number TooLong = refl
+named_number AlreadyFounded = refl
 named_number NotFounded = refl
 
 pub not_done : {A : Type 0} (s : Stopped) → number_of s ≡ DONE → A
 not_done NotACommand e = other 2 0 refl e
 not_done SourceFault e = other 4 0 refl e
 not_done SinkFault e = other 5 0 refl e
+not_done DiskFault e = other 6 0 refl e
 not_done NoMemory e = other 7 0 refl e
 not_done TooLong e = other 9 0 refl e
+not_done AlreadyFounded e = other 10 0 refl e
 not_done NotFounded e = other 11 0 refl e
 
 -- a run with the status of a reason ended for that reason

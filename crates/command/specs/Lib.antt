@@ -3,3 +3,5 @@ pub mod Answers
 pub mod Trial
 pub mod TrialDump
 pub mod Beginning
+pub mod FoundingText
+pub mod Found

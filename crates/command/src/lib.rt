@@ -3,6 +3,8 @@
 
 mod answering;
 mod commands;
+mod finding;
+mod foundings;
 mod status;
 mod streams;
 #[cfg(test)]
@@ -12,7 +14,7 @@ mod trials;
 pub use answering::{Answer, answer_lines};
 pub use commands::run;
 pub use status::{
-    DONE, NO_MEMORY, NOT_A_COMMAND, NOT_FOUNDED, SINK_FAULT, SOURCE_FAULT, Stopped, TOO_LONG,
-    exit_status,
+    ALREADY_FOUNDED, DISK_FAULT, DONE, NO_MEMORY, NOT_A_COMMAND, NOT_FOUNDED, SINK_FAULT,
+    SOURCE_FAULT, Stopped, TOO_LONG, exit_status,
 };
 pub use streams::write_all;

@@ -1,8 +1,9 @@
 ghost use Rattle.std.specs.Prelude.{◌≡◌};
-ghost use Rattle.command.specs.Statuses.{number_of, status_of, stopped_at};
+ghost use Rattle.command.specs.Statuses.{number_of, status_of, stopped_at, unlaid_by};
 ghost use Rattle.command.specs.declared.status.Stopped.TheVariants.{NoMemory as OutOfMemory, SinkFault as AtSink};
 
 use ports::Failed;
+use recovery::RebaseFault;
 use request_text::Stop;
 use std::alloc::AllocError;
 
@@ -18,11 +19,17 @@ pub const SOURCE_FAULT: u8 = 4;
 /// The sink failed.
 pub const SINK_FAULT: u8 = 5;
 
+/// A disk failed.
+pub const DISK_FAULT: u8 = 6;
+
 /// Out of memory, outside a request.
 pub const NO_MEMORY: u8 = 7;
 
 /// As many bytes were taken from the source as a run may take, 2^40, and no end was seen.
 pub const TOO_LONG: u8 = 9;
+
+/// One of the disks holds an open area: a universe was founded on them before.
+pub const ALREADY_FOUNDED: u8 = 10;
 
 /// The input does not begin with a founding text.
 pub const NOT_FOUNDED: u8 = 11;
@@ -33,8 +40,10 @@ pub enum Stopped {
     NotACommand,
     SourceFault,
     SinkFault,
+    DiskFault,
     NoMemory,
     TooLong,
+    AlreadyFounded,
     NotFounded,
 }
 
@@ -65,6 +74,17 @@ impl From<AllocError> for Stopped {
     }
 }
 
+impl From<RebaseFault> for Stopped {
+    ghost from_gives = { λ fault stopped. stopped ≡ unlaid_by fault };
+
+    fn from(fault: RebaseFault) -> Stopped {
+        match fault {
+            RebaseFault::Memory => Stopped::NoMemory,
+            RebaseFault::DeviceFault => Stopped::DiskFault,
+        }
+    }
+}
+
 /// The status of a run that ended so.
 pub fn exit_status(ended: Result<(), Stopped>) -> u8
     ensures { result ≡ status_of ended }
@@ -74,8 +94,10 @@ pub fn exit_status(ended: Result<(), Stopped>) -> u8
         Err(Stopped::NotACommand) => NOT_A_COMMAND,
         Err(Stopped::SourceFault) => SOURCE_FAULT,
         Err(Stopped::SinkFault) => SINK_FAULT,
+        Err(Stopped::DiskFault) => DISK_FAULT,
         Err(Stopped::NoMemory) => NO_MEMORY,
         Err(Stopped::TooLong) => TOO_LONG,
+        Err(Stopped::AlreadyFounded) => ALREADY_FOUNDED,
         Err(Stopped::NotFounded) => NOT_FOUNDED,
     }
 }

@@ -4,11 +4,13 @@ mod attacks;
 mod buildings;
 mod dumps;
 mod flights;
+mod founds;
 mod researches;
 mod yards;
 
 use crate::{DONE, NOT_A_COMMAND, NOT_FOUNDED, SINK_FAULT, SOURCE_FAULT, run};
-use ports::{Failed, MemoryClock, MemorySink, MemorySource, Sink, Source};
+use disk_port::MemoryDisk;
+use ports::{Clock, Failed, MemoryClock, MemorySink, MemorySource, Sink, Source};
 use std::alloc::{AllocError, Global};
 use std::cell::Cell;
 use std::test::Fail;
@@ -34,6 +36,19 @@ fn words_of(alloc: Global, line: &str) -> Result<Vec<String>, AllocError> {
     Ok(words)
 }
 
+/// Runs a command that leaves its disks alone, and returns its status.
+fn run_undisturbed<S: Source, K: Sink, C: Clock>(
+    alloc: Global,
+    words: &[String],
+    source: &mut S,
+    sink: &mut K,
+    clock: &mut C,
+) -> Result<u8, AllocError> {
+    let left = MemoryDisk::new(alloc, b"", &[])?;
+    let right = MemoryDisk::new(alloc, b"", &[])?;
+    Ok(run(alloc, words, source, sink, left, right, clock).status)
+}
+
 /// Runs `trial` over an input that comes in pieces of at most `most` bytes.
 fn tried<'a>(
     alloc: Global,
@@ -46,7 +61,7 @@ fn tried<'a>(
     let mut source = MemorySource::new(input, failing_reads).in_pieces(most);
     let mut sink = MemorySink::new(alloc, failing_writes);
     let mut clock = MemoryClock::new(&[]);
-    let status = run(alloc, &words, &mut source, &mut sink, &mut clock);
+    let status = run_undisturbed(alloc, &words, &mut source, &mut sink, &mut clock)?;
     Ok((status, sink))
 }
 
@@ -251,7 +266,7 @@ fn other_words_than_a_command_have_2_and_read_nothing(rt: HostRuntime) -> Result
         let mut source = MemorySource::new(FOUNDING, &[]);
         let mut sink = MemorySink::new(alloc, &[]);
         let mut clock = MemoryClock::new(&[]);
-        let status = run(alloc, &words, &mut source, &mut sink, &mut clock);
+        let status = run_undisturbed(alloc, &words, &mut source, &mut sink, &mut clock)?;
         assert_eq!(rt; status, NOT_A_COMMAND);
         assert_eq!(rt; source.calls, 0);
         assert!(rt; sink.written().is_empty());
@@ -292,7 +307,7 @@ fn answers_at<'a>(
     let mut source = MemorySource::new(&input, &[]);
     let mut sink = MemorySink::new(alloc, &[]);
     let mut clock = MemoryClock::new(readings);
-    let status = run(alloc, &words, &mut source, &mut sink, &mut clock);
+    let status = run_undisturbed(alloc, &words, &mut source, &mut sink, &mut clock)?;
     Ok((status, sink, clock))
 }
 
@@ -413,7 +428,7 @@ fn bytes_come_and_go_in_pieces_of_any_size(rt: HostRuntime) -> Result<(), Fail> 
         let mut source = MemorySource::new(&input, &[]).in_pieces(most);
         let mut sink = MemorySink::new(alloc, &[]).in_pieces(most);
         let mut clock = MemoryClock::new(&[]);
-        let status = run(alloc, &words, &mut source, &mut sink, &mut clock);
+        let status = run_undisturbed(alloc, &words, &mut source, &mut sink, &mut clock)?;
         assert_eq!(rt; status, DONE);
         assert_eq!(rt; sink.written(), whole.written());
     }
@@ -483,7 +498,7 @@ fn each_line_is_answered_before_the_next_is_read(rt: HostRuntime) -> Result<(), 
     let mut sink = Counting { answers: &answers };
     let mut clock = MemoryClock::new(&[]);
     let words = words_of(alloc, "trial")?;
-    let status = run(alloc, &words, &mut source, &mut sink, &mut clock);
+    let status = run_undisturbed(alloc, &words, &mut source, &mut sink, &mut clock)?;
     assert_eq!(rt; (status, answers.get()), (DONE, 3));
     Ok(())
 }

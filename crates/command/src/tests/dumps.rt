@@ -1,6 +1,6 @@
 // The command `trial dump`.
-use super::words_of;
-use crate::{DONE, NOT_FOUNDED, SINK_FAULT, SOURCE_FAULT, run};
+use super::{run_undisturbed, words_of};
+use crate::{DONE, NOT_FOUNDED, SINK_FAULT, SOURCE_FAULT};
 use ports::{MemoryClock, MemorySink, MemorySource};
 use std::alloc::{AllocError, Global};
 use std::test::Fail;
@@ -33,7 +33,7 @@ fn dumped<'a>(
     let mut source = MemorySource::new(input, failing_reads);
     let mut sink = MemorySink::new(alloc, failing_writes).in_pieces(most);
     let mut clock = MemoryClock::new(&[]);
-    let status = run(alloc, &words, &mut source, &mut sink, &mut clock);
+    let status = run_undisturbed(alloc, &words, &mut source, &mut sink, &mut clock)?;
     Ok((status, sink))
 }
 

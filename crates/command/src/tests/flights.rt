@@ -1,6 +1,6 @@
 // Fleets: transports, deployments, recalls, and what is shown of them.
-use super::{Answers, tried, words_of};
-use crate::{DONE, run};
+use super::{Answers, run_undisturbed, tried, words_of};
+use crate::DONE;
 use ports::{MemoryClock, MemorySink, MemorySource};
 use std::alloc::Global;
 use std::test::Fail;
@@ -166,7 +166,7 @@ fn fleets_that_meet_at_a_planet_bring_each_others_cells(rt: HostRuntime) -> Resu
     let mut source = MemorySource::new(&input, &[]);
     let mut sink = MemorySink::new(rt.alloc(), &[]);
     let mut clock = MemoryClock::new(&[]);
-    let status = run(rt.alloc(), &words, &mut source, &mut sink, &mut clock);
+    let status = run_undisturbed(rt.alloc(), &words, &mut source, &mut sink, &mut clock)?;
     assert_eq!(rt; status, DONE);
     assert_eq!(rt; sink.written(), TWO_TRANSPORTS_TOLD);
     Ok(())

@@ -21,14 +21,14 @@ returns-clause-leaves g c =
     let l2 = left c.answer_lines.new.source in
     let t0 = g.C.Clock.told c.args.clock.now in
     let t1 = g.C.Clock.told c.answer_lines.new.clock in
-    let w = g.K.Sink.written c.found.new.sink in
+    let w = g.K.Sink.written c.begin.new.sink in
     let w1 = g.K.Sink.written c.answer_lines.new.sink in
     let first = c.in_ok-universe.universe in
     let last = c.answer_lines.new.universe in
     let silent = c.in_ok-universe.ensures.silent in
     subst (λ (w0 : Option (List ℕ)). Known l0 l2 (λ text more. Leaves text more t0 t1 w0 w1 last)) (ap g.K.Sink.written silent)
-    (known-then l0 (left c.found.new.source) l2 _ _ (λ text more. Leaves text more t0 t1 w w1 last)
-    (λ x y z begins done. leaves-all x y z c.found.new.lines first last t0 t1 w w1 begins (done begins.rest begins.base begins.sees begins.keeps))
+    (known-then l0 (left c.begin.new.source) l2 _ _ (λ text more. Leaves text more t0 t1 w w1 last)
+    (λ x y z begins done. leaves-all x y z c.begin.new.lines first last t0 t1 w w1 begins (done begins.rest begins.base begins.sees begins.keeps))
     c.in_ok-universe.ensures.begins c.in_ok-answer_lines.ensures.done)
 
 pub returns-clause-trial : goal.returns-clause-trial
@@ -52,15 +52,15 @@ pub returns-in_err-answer_lines-clause-trial :
 returns-in_err-answer_lines-clause-trial g c =
     let left = g.S.Source.left in
     let l0 = left c.args.source.now in
-    let l1 = left c.found.new.source in
+    let l1 = left c.begin.new.source in
     let l2 = left c.answer_lines.new.source in
     let t0 = g.C.Clock.told c.args.clock.now in
     let t1 = g.C.Clock.told c.answer_lines.new.clock in
-    let w = g.K.Sink.written c.found.new.sink in
+    let w = g.K.Sink.written c.begin.new.sink in
     let w1 = g.K.Sink.written c.answer_lines.new.sink in
     let first = c.in_ok-universe.universe in
     let last = c.answer_lines.new.universe in
-    let reader = c.found.new.lines in
+    let reader = c.begin.new.lines in
     let silent = c.in_ok-universe.ensures.silent in
     let stopped = c.in_err-answer_lines.field-0.0 in
     let ended : Result Unit Stopped = Err stopped in
