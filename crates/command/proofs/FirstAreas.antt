@@ -1,12 +1,10 @@
 -- A base becomes the first area of a disk that was looked at before.
-use Rattle.std.proofs.Common.{◌≡◌, ◌⊎◌, ℕ, List, [], Option, inl, inr, refl, subst, sym, take}
+use Rattle.std.proofs.Common.{◌≡◌, ◌⊎◌, ℕ, List, Option, inl, inr, refl, subst, sym, take}
 use Rattle.std.specs.Io.KnownBytes.{Appends}
 use Rattle.base_bytes.specs.Spelling.{base_spelling}
 use Rattle.base_bytes.specs.declared.base.Base.{Base}
-use Rattle.disk_port.specs.Story.{Lawful, Story, Told}
-use Rattle.disk_port.specs.Moments.{EachNow, EachSince}
+use Rattle.disk_port.specs.Story.{Lawful, Story}
 use Rattle.disk_port.proofs.Moments.{joined, now-since, started, weakened}
-use Rattle.recovery.specs.Areas.{IsArea}
 use Rattle.recovery.specs.Laying.{IsRebasing, as_before, not_open, rebased}
 use Rattle.recovery.specs.declared.rebasing.RebaseFault.{RebaseFault}
 use Rattle.recovery.specs.declared.rebasing.RebaseFault.TheVariants.{Memory as OutOfMemory, DeviceFault}

@@ -1,20 +1,16 @@
 -- A founding text that was read, or why none was.
-use Rattle.std.proofs.Common.{◌≡◌, ◌⊎◌, ℕ, List, [], Option, inl, inr, refl}
+use Rattle.std.proofs.Common.{ℕ, List, [], Option, refl}
 use Rattle.base_bytes.specs.Base.{universe_of}
 use Rattle.base_bytes.specs.declared.base.Base.{Base}
-use Rattle.founding.specs.Founding.{IsUnfinished}
 use Rattle.lazy.specs.Keeping.{Keeps}
 use Rattle.lazy.specs.declared.universe.LazyUniverse.{LazyUniverse}
-use Rattle.request_text.proofs.LineKnowing.{known-map, known-then}
 use Rattle.request_text.specs.LineReading.{Known, Sees}
 use Rattle.request_text.specs.declared.line_reader.LineReader.{LineReader}
 use Rattle.request_text.specs.declared.line_reader.Stop.{Stop}
 use Rattle.request_text.specs.declared.line_reader.Stop.TheVariants.{Fault, Spent}
 use Rattle.command.specs.Beginning.{Begins}
-use Rattle.command.specs.FoundingText.{IsFoundedBy, IsReadPart, IsReadTo, LacksBase, behind, within}
+use Rattle.command.specs.FoundingText.{IsFoundedBy, IsReadPart, IsReadTo, LacksBase}
 use Rattle.command.specs.Statuses.{number_of, stopped_at}
-use Rattle.command.specs.Trial.{Trial, TriedBroken, TriedPart, NamedBroken, Unfounded}
-use Rattle.command.specs.declared.status.TheConstants.{DONE, SOURCE_FAULT, TOO_LONG}
 use Rattle.command.proofs.Numbering.{other}
 
 -- a universe was made of the base that was read

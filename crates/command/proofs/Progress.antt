@@ -20,7 +20,7 @@ use Rattle.request_text.specs.declared.call.Call.{Call}
 use Rattle.request_text.specs.declared.entry.Entry.{Entry}
 use Rattle.request_text.specs.declared.line_reader.LineReader.{LineReader}
 use Rattle.reply_text.specs.Heads.{text}
-use Rattle.request_text.specs.Grammar.{Spells, timed_words}
+use Rattle.request_text.specs.Grammar.{timed_words}
 use Rattle.request_text.specs.Forms.{form_word}
 use Rattle.request_text.specs.Words.{argument_words, form_of, request_words}
 use Rattle.request_text.specs.declared.request.Request.{Request}
@@ -29,11 +29,10 @@ use Rattle.base_ids.specs.declared.player.Player.{Player}
 use Rattle.base_text.proofs.Splitting.{join-parts}
 use Rattle.std.specs.List.{join_with_byte}
 use Rattle.std.proofs.lemmas.Fmt.{decimal_nonempty}
-use Rattle.request_text.proofs.Spellings.{one_call}
 use Rattle.lazy.specs.Keeping.{Asks, Keeps, KeepsSome}
 use Rattle.lazy.specs.declared.universe.LazyUniverse.{LazyUniverse}
 use Rattle.reply_text.specs.declared.reply.Reply.{Reply}
-use Rattle.tick_model.specs.Talk.{AsksFor, AsksNothing, CameAt}
+use Rattle.tick_model.specs.Talk.{AsksFor, CameAt}
 use Rattle.tick_model.specs.Universe.{Universe}
 use Rattle.tick_model.proofs.Talks.{Told, told-nothing, told-long, told-bad, told-answered, told-unanswered, told-all}
 use Rattle.command.specs.Answers.{Answered, AnsweredAll, AnsweredPart, BrokeOff, IsTold, KeepsOne, Turn, too_long, asks_nothing, asked, lacks_memory, Turns}

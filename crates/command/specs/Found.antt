@@ -38,24 +38,24 @@ module _ {D : Type 0} (story : Story D) where
 
   -- The source was read to its end, its text founds this base, and the base may have become the first area of a disk: each image
   -- since is one from before, is not open, or is that area.
-  pub record MayHold (base : Base) (old new : D) (left_before left_after : Option (List ℕ)) : Type 0 where
-    pub read : Known left_before left_after (λ text more. (more ≡ []) × IsFoundedBy text base)
+  pub record MayHold (base : Base) (old new : D) (text_before text_after : Option (List ℕ)) : Type 0 where
+    pub read : Known text_before text_after (λ text more. (more ≡ []) × IsFoundedBy text base)
     pub since : Told story old new (EachSince story old new (IsRebasing (story.leaves old) 1 (base_spelling base)))
 
   -- the same, and a crash now leaves nothing but that area
-  pub record Holds (base : Base) (old new : D) (left_before left_after : Option (List ℕ)) : Type 0 where
-    pub may : MayHold base old new left_before left_after
+  pub record Holds (base : Base) (old new : D) (text_before text_after : Option (List ℕ)) : Type 0 where
+    pub may : MayHold base old new text_before text_after
     pub now : Told story old new (EachNow story new (IsArea 1 (base_spelling base)))
 
   -- What `found` has read, written and done to the left disk with each status, by what the source had left before and after, and
   -- what was written.
-  pub record Found (status : ℕ) (old new : D) (left_before left_after written_before written_after : Option (List ℕ)) : Type 0 where
-    pub done : status ≡ DONE → (base : Base) × Holds base old new left_before left_after × Appends written_before written_after (founded_line base)
+  pub record Found (status : ℕ) (old new : D) (text_before text_after written_before written_after : Option (List ℕ)) : Type 0 where
+    pub done : status ≡ DONE → (base : Base) × Holds base old new text_before text_after × Appends written_before written_after (founded_line base)
     pub broken : status ≡ SINK_FAULT
-        → ((base : Base) × Holds base old new left_before left_after × (count : ℕ) × Appends written_before written_after (take count (founded_line base)))
-        ⊎ (IsAsBefore old new × Known left_before left_after (λ text more. NamedBroken text written_before written_after))
-    pub torn : status ≡ DISK_FAULT → IsAsBefore old new ⊎ ((base : Base) × MayHold base old new left_before left_after)
-    pub partly : (status ≡ SOURCE_FAULT) ⊎ (status ≡ TOO_LONG) → Known left_before left_after IsReadPart
-    pub not_founded : status ≡ NOT_FOUNDED → Known left_before left_after (λ text more. NamedBad text written_before written_after)
+        → ((base : Base) × Holds base old new text_before text_after × (count : ℕ) × Appends written_before written_after (take count (founded_line base)))
+        ⊎ (IsAsBefore old new × Known text_before text_after (λ text more. NamedBroken text written_before written_after))
+    pub torn : status ≡ DISK_FAULT → IsAsBefore old new ⊎ ((base : Base) × MayHold base old new text_before text_after)
+    pub partly : (status ≡ SOURCE_FAULT) ⊎ (status ≡ TOO_LONG) → Known text_before text_after IsReadPart
+    pub not_founded : status ≡ NOT_FOUNDED → Known text_before text_after (λ text more. NamedBad text written_before written_after)
     pub as_before : (status ≡ SOURCE_FAULT) ⊎ (status ≡ NO_MEMORY) ⊎ (status ≡ TOO_LONG) ⊎ (status ≡ ALREADY_FOUNDED) ⊎ (status ≡ NOT_FOUNDED)
         → IsAsBefore old new

@@ -1,12 +1,8 @@
-use Rattle.std.proofs.Common.{◌≡◌, List, ℕ, Option, ap, sym, subst, take, ◌∙◌}
+use Rattle.std.proofs.Common.{List, ℕ, Option, ap, subst, take, ◌∙◌}
 use Rattle.std.proofs.lemmas.Result.{err_from_is_err_and}
 use Rattle.std.specs.Io.KnownBytes.{Appends}
 use Rattle.std.specs.Prelude.{Err}
-use Rattle.base_bytes.specs.declared.base.Base.{Base}
-use Rattle.recovery.specs.declared.rebasing.RebaseFault.{RebaseFault}
-use Rattle.recovery.specs.declared.rebasing.RebaseFault.TheVariants.{Memory}
-use Rattle.command.specs.Found.{Found, MayHold, founded_line}
-use Rattle.command.specs.Statuses.{number_of, unlaid_by}
+use Rattle.command.specs.Found.{MayHold, founded_line}
 use Rattle.command.proofs.FirstAreas.{found-broken, found-done, found-unlaid}
 use Rattle.command.proofs.finding.lay_first.Goals as goal
 

@@ -1,9 +1,8 @@
-use Rattle.std.proofs.Common.{◌≡◌, ◌+◌, ◌≤◌, List, ℕ, [], Some, None, length, ap, refl, sym, subst, ◌∙◌}
+use Rattle.std.proofs.Common.{◌≡◌, ◌+◌, List, ℕ, [], Some, None, length, ap, refl, sym, subst, ◌∙◌}
 use Rattle.request_text.proofs.LineKnowing.{known-same, known-then}
-use Rattle.request_text.specs.LineReading.{Leaves, Sees, Tells, advance, ahead, line_of, taken}
-use Rattle.request_text.specs.declared.line_reader.Line.{Line}
+use Rattle.request_text.specs.LineReading.{Leaves, Sees, Tells, line_of, taken}
 use Rattle.command.proofs.FoundingTexts.{SeesRest}
-use Rattle.command.proofs.Progress.{told_line, told_nearer, told_unfailed}
+use Rattle.command.proofs.Progress.{told_line, told_unfailed}
 use Rattle.command.proofs.foundings.drop_rest.Goals as goal
 
 pub rest-init : goal.rest-init

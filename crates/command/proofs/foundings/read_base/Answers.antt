@@ -1,7 +1,6 @@
 use Rattle.std.proofs.Common.{◌≡◌, List, ℕ, [], Option, ap, subst}
 use Rattle.std.proofs.lemmas.Result.{err_from_is_err_and}
 use Rattle.request_text.proofs.LineKnowing.{known-then}
-use Rattle.request_text.specs.LineReading.{Known}
 use Rattle.command.specs.FoundingText.{IsFoundedBy, IsReadPart, LacksBase, behind}
 use Rattle.command.specs.Statuses.{number_of, stopped_at}
 use Rattle.command.proofs.FoundingTexts.{founded-by, lacks-rest}

@@ -1,4 +1,4 @@
-use Rattle.std.proofs.Common.{◌≡◌, ◌⊎◌, ℕ, List, Option, inl, inr, refl, subst}
+use Rattle.std.proofs.Common.{◌≡◌, ◌⊎◌, inl, inr, refl, subst}
 use Rattle.std.proofs.lemmas.Result.{err_from_is_err_and}
 use Rattle.std.specs.Prelude.{Err, Result}
 use Rattle.base_bytes.specs.declared.base.Base.{Base}
@@ -7,7 +7,6 @@ use Rattle.founding.specs.Reading.{Reads}
 use Rattle.founding.specs.declared.fault.FoundingFault.{FoundingFault}
 use Rattle.request_text.proofs.LineKnowing.{known-map}
 use Rattle.command.specs.FoundingText.{IsReadTo}
-use Rattle.command.specs.Statuses.{status_of}
 use Rattle.command.specs.Trial.{NamedBad, NamedBroken}
 use Rattle.command.specs.declared.status.Stopped.{Stopped}
 use Rattle.command.specs.declared.status.Stopped.TheVariants.{SinkFault, NoMemory}

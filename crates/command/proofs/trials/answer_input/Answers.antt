@@ -1,15 +1,13 @@
-use Rattle.std.proofs.Common.{◌≡◌, ◌⊎◌, ℕ, List, inl, inr, refl, ap, sym, subst, Option}
+use Rattle.std.proofs.Common.{◌≡◌, ◌⊎◌, ℕ, List, inl, inr, refl, ap, subst, Option}
 use Rattle.std.proofs.lemmas.Result.{err_from_is_err_and}
 use Rattle.std.specs.Prelude.{Err, Result}
-use Rattle.lazy.specs.declared.universe.LazyUniverse.{LazyUniverse}
 use Rattle.request_text.proofs.LineKnowing.{known-map, known-then}
 use Rattle.request_text.specs.LineReading.{Known}
-use Rattle.command.specs.Beginning.{Begins, Leaves}
+use Rattle.command.specs.Beginning.{Leaves}
 use Rattle.command.specs.Statuses.{status_of}
 use Rattle.command.specs.Trial.{NamedBroken, Trial, Tried, TriedBroken, TriedPart, Unfounded}
 use Rattle.command.specs.declared.status.Stopped.{Stopped}
 use Rattle.command.specs.declared.status.Stopped.TheVariants.{SourceFault, SinkFault, TooLong, NotFounded}
-use Rattle.command.specs.declared.status.TheConstants.{DONE}
 use Rattle.command.proofs.Numbering.{never_unfounded, not_done, other, status_err}
 use Rattle.command.proofs.Trying.{leaves-all, tried-broken, tried-part}
 use Rattle.command.proofs.trials.answer_input.Goals as goal

@@ -1,8 +1,7 @@
-use Rattle.std.proofs.Common.{◌≡◌, ◌⊎◌, ℕ, List, inl, inr, refl, ap, sym, subst, Option, take}
+use Rattle.std.proofs.Common.{◌⊎◌, ℕ, List, inl, inr, refl, subst, take}
 use Rattle.std.proofs.lemmas.Result.{err_from_is_err_and}
 use Rattle.std.specs.Io.KnownBytes.{Appends}
 use Rattle.request_text.proofs.LineKnowing.{known-map}
-use Rattle.request_text.specs.LineReading.{Known}
 use Rattle.command.specs.Trial.{NamedBroken, TriedBroken}
 use Rattle.command.specs.TrialDump.{DumpBroken, Dumped}
 use Rattle.command.proofs.Numbering.{other}
