@@ -1,3 +1,9 @@
+pub mod Bases
+pub mod Chains
+pub mod Fronts
 pub mod Gates
 pub mod Heads
 pub mod Lays
+pub mod Openings
+pub mod Restored
+pub mod Wholes

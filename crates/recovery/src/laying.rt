@@ -1,49 +1,12 @@
 // How an area is laid on a disk: its gate is closed, what stands behind it is written, and then the gate is opened.
-ghost use Rattle.std.specs.Prelude.{◌≡◌, ◌∷◌, ◌↔◌, IsTrue, IfOk, List, OnOk, ℕ};
-ghost use Rattle.disk_port.specs.Disk.{Elapses, Rests};
+ghost use Rattle.std.specs.Prelude.{◌≡◌, ◌∷◌, IfOk, List, OnOk, ℕ};
 ghost use Rattle.disk_port.specs.Moments.{EachNow, EachSince};
 ghost use Rattle.disk_port.specs.Story.{Told};
 ghost use Rattle.ports.specs.Causes.{HasCause};
-ghost use Rattle.recovery.specs.Areas.{IsMarked, IsOpen};
 ghost use Rattle.recovery.specs.Laying.{HasBehind, HasGate, IsClosedAs, IsClosing, IsLaying, IsOpening};
 
-use crate::head::MARK;
 use disk_port::{Disk, write_and_sync};
 use ports::Failed;
-
-/// The fewest bytes of an open area: its gate, its head, and the gate of its first batch.
-const LEAST: usize = 58;
-
-// Whether the area on a disk is open.
-fn is_open<D: Disk>(disk: &mut D) -> Result<bool, Failed>
-    ensures open { Told D.story disk.old disk.new (IfOk result (λ answer. IsTrue answer ↔ IsOpen (D.story.seen disk.old))) }
-    ensures images { Told D.story disk.old disk.new (Rests D.story disk.old disk.new) }
-    ensures time { Told D.story disk.old disk.new (Elapses D.story disk.old disk.new) }
-    ensures cause { HasCause (D.faults disk.old) (D.faults disk.new) result }
-{
-    let mut bytes = [0; LEAST];
-    let count = disk.read_at(0, &mut bytes)?;
-    Ok(count == LEAST && is_marked(&bytes))
-}
-
-// Whether the first bytes of an area are an open gate and the mark.
-fn is_marked(bytes: &[u8; LEAST]) -> bool
-    ensures { IsTrue result ↔ IsMarked bytes.now }
-{
-    bytes[0] == 1 && bytes[1..9] == MARK[..]
-}
-
-/// Makes sure of what a disk holds, and tells whether the area on it is open. Then each image is what a read gives.
-pub fn look<D: Disk>(disk: &mut D) -> Result<bool, Failed>
-    ensures since { Told D.story disk.old disk.new (EachSince D.story disk.old disk.new (D.story.leaves disk.old)) }
-    ensures seen { Told D.story disk.old disk.new (D.story.seen disk.new ≡ D.story.seen disk.old) }
-    ensures settled { Told D.story disk.old disk.new (OnOk result (EachNow D.story disk.new (λ c. c ≡ D.story.seen disk.old))) }
-    ensures opens { Told D.story disk.old disk.new (IfOk result (λ answer. IsTrue answer ↔ IsOpen (D.story.seen disk.old))) }
-    ensures cause { HasCause (D.faults disk.old) (D.faults disk.new) result }
-{
-    disk.sync()?;
-    is_open(disk)
-}
 
 /// Lays an area on a disk: behind its gate these bytes, and the gate open. Each image in between is one from before, is not
 /// open, or is the whole area.

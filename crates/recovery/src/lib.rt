@@ -1,12 +1,23 @@
 //! Areas: the two files of a universe, each with a base and the entries since.
 #![tactic(auto)]
 
+mod choosing;
 mod head;
+mod laws;
 mod laying;
+mod looking;
+mod outcome;
+mod reading;
 mod rebasing;
+mod reopening;
+mod restoring;
 #[cfg(test)]
 mod tests;
 
 pub use head::{Head, MARK};
-pub use laying::{lay, look};
+pub use laws::areas_reopen;
+pub use laying::lay;
+pub use looking::look;
+pub use outcome::{Found, OpenFault};
 pub use rebasing::{RebaseFault, rebase};
+pub use reopening::reopen;
