@@ -1,5 +1,5 @@
 -- What only looks goes on from call to call.
-use Rattle.std.proofs.Common.{◌≡◌, ℕ, List, Result, Ok, Err, OnOk, refl, ◌∙◌}
+use Rattle.std.proofs.Common.{◌≡◌, ℕ, List, Result, refl, ◌∙◌}
 use Rattle.disk_port.specs.Disk.{Elapses, Rests, Settles}
 use Rattle.disk_port.specs.Moments.{EachNow}
 use Rattle.disk_port.specs.Story.{Lawful, Story, Told}

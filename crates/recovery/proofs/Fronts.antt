@@ -1,12 +1,12 @@
 -- What the first bytes of an area tell of it.
-use Rattle.std.proofs.Common.{◌≡◌, ℕ, ◌+◌, ◌-◌, ◌<◌, ◌≤◌, ◌^◌, inl, inr, List, [], ◌∷◌, ◌++◌, codes, length, take, drop, get_or, min, refl, ap, ◌∙◌, sym, arith, length-append, length-drop, append-nil}
+use Rattle.std.proofs.Common.{◌≡◌, ℕ, ◌+◌, ◌-◌, ◌<◌, ◌≤◌, inl, inr, List, ◌++◌, codes, length, take, drop, get_or, ap, ◌∙◌, sym, arith, length-drop, append-nil}
 use Rattle.std.proofs.lemmas.List.{drop-drop, drop-take, get_or-drop, get_or-take, length-take, take-take}
 use Rattle.std.proofs.lemmas.Bool.{cases_lt}
 use Rattle.std.proofs.lemmas.Nat.{be_bytes_8}
 use Rattle.std.proofs.Math.ListN.{get_or-eq_default}
 use Rattle.std.proofs.Math.Seq.{take-add}
-use Rattle.std.specs.Int.{from_be_bytes, to_be_bytes, w64}
-use Rattle.records.specs.Entries.{joined, u64}
+use Rattle.std.specs.Int.{from_be_bytes, w64}
+use Rattle.records.specs.Entries.{u64}
 use Rattle.recovery.specs.Areas.{IsOpen, sized_bytes}
 use Rattle.recovery.specs.Reopening.{IsHeadIn, generation_of, kept_digest, size_of}
 use Rattle.recovery.specs.declared.head.Head.{Head}

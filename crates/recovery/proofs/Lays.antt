@@ -1,6 +1,6 @@
 -- What the steps of laying an area lead to.
-use Rattle.std.proofs.Common.{◌≡◌, ℕ, ◌≤◌, List, [], ◌∷◌, take, Result, Ok, Err, OnOk, refl, ◌∙◌, ap, sym, subst}
-use Rattle.disk_port.specs.Contents.{Shortened, Torn, written}
+use Rattle.std.proofs.Common.{◌≡◌, ℕ, List, [], ◌∷◌, take, Result, Ok, Err, OnOk, ◌∙◌, ap, sym, subst}
+use Rattle.disk_port.specs.Contents.{Shortened, written}
 use Rattle.disk_port.specs.Disk.{Elapses, Rests, Settles, Tears}
 use Rattle.disk_port.specs.Moments.{EachNow, EachSince, TornFrom}
 use Rattle.disk_port.specs.Story.{Lawful, Story, Told}

@@ -4,6 +4,7 @@ pub mod Fronts
 pub mod Gates
 pub mod Heads
 pub mod Lays
+pub mod Once
 pub mod Openings
 pub mod Restored
 pub mod Wholes

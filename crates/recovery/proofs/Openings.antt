@@ -1,5 +1,5 @@
 -- From the head of the area that is chosen to how the two areas open.
-use Rattle.std.proofs.Common.{◌≡◌, ℕ, ◌+◌, Bool, List, length, take, drop, Result, Ok, Err, IsErrAnd, ap, ◌∙◌, sym, subst}
+use Rattle.std.proofs.Common.{◌≡◌, ℕ, ◌+◌, Bool, List, take, drop, Result, Ok, Err, IsErrAnd, ap, ◌∙◌, sym, subst}
 use Rattle.std.specs.Prelude.{slice_index}
 use Rattle.base_bytes.specs.declared.base.Base.{Base}
 use Rattle.recovery.specs.Reopening.{HasBadEntry, IsChosen, IsFoundIn, IsGateAt, IsHeadIn, IsIntact, Opens, OpensIn, Restores, base_there, first_batch, side, size_of}

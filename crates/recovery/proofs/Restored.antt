@@ -1,5 +1,5 @@
 -- What the bytes of a base tell of its area.
-use Rattle.std.proofs.Common.{◌≡◌, ◌≢◌, ℕ, ◌+◌, ◌-◌, ◌≤◌, List, ◌++◌, length, take, drop, min, ap, ◌∙◌, sym, subst, arith, length-drop}
+use Rattle.std.proofs.Common.{◌≡◌, ◌≢◌, ℕ, ◌-◌, List, ◌++◌, length, drop, min, ap, ◌∙◌, sym, subst, arith, length-drop}
 use Rattle.std.proofs.lemmas.List.{length-take}
 use Rattle.base_bytes.specs.Rules.{Spells}
 use Rattle.base_bytes.specs.declared.base.Base.{Base}

@@ -1,10 +1,10 @@
 -- An area that was laid, read again.
-use Rattle.std.proofs.Common.{◌≡◌, ℕ, zero, suc, ◌+◌, ◌-◌, ◌*◌, ◌<◌, ◌≤◌, ◌^◌, List, [], ◌∷◌, ◌++◌, codes, length, take, drop, get_or, refl, ap, ◌∙◌, sym, subst, arith, length-append, append-nil, append_assoc, w32, w64}
+use Rattle.std.proofs.Common.{◌≡◌, ℕ, zero, suc, ◌+◌, ◌-◌, ◌*◌, ◌<◌, ◌^◌, List, [], ◌∷◌, ◌++◌, length, take, drop, get_or, refl, ap, ◌∙◌, sym, subst, arith, length-append, append-nil, w32, w64}
 use Rattle.std.proofs.lemmas.List.{drop_at, get_or-append_right, get_or-drop, take_at}
 use Rattle.std.proofs.lemmas.Bool.{true≢false}
 use Rattle.std.proofs.lemmas.Nat.{from_be_bytes-to_be_bytes_8}
 use Rattle.std.specs.Int.{from_be_bytes, to_be_bytes}
-use Rattle.records.specs.Entries.{joined, u64}
+use Rattle.records.specs.Entries.{u64}
 use Rattle.base_bytes.specs.Rules.{IsBase}
 use Rattle.base_bytes.specs.Spelling.{base_spelling}
 use Rattle.base_bytes.specs.declared.base.Base.{Base}

@@ -10,12 +10,14 @@ mod outcome;
 mod reading;
 mod rebasing;
 mod reopening;
+#[cfg(test)]
+mod reopening_tests;
 mod restoring;
 #[cfg(test)]
 mod tests;
 
 pub use head::{Head, MARK};
-pub use laws::areas_reopen;
+pub use laws::{areas_open_once, areas_reopen};
 pub use laying::lay;
 pub use looking::look;
 pub use outcome::{Found, OpenFault};
