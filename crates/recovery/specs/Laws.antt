@@ -16,7 +16,7 @@ pub record IsWhole (generation : ℕ) (base : Base) (found : Found) : Type 0 whe
   pub end_is : found.end ≡ 57 + length (base_spelling base)
   pub short_is : found.short ≡ false
 
--- an area that a base was made is open, and just this base is found in it
+-- an area that was laid for a base is open, and just this base is found in it
 abbrev pub AreasReopen : Type 0
 AreasReopen = (generation : ℕ) (base : Base) (content : List ℕ) → generation < 2 ^ 64 → IsBase base → base.seed < 2 ^ 64
     → length (base_spelling base) < 2 ^ 64 → IsArea generation (base_spelling base) content

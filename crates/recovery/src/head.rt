@@ -71,7 +71,7 @@ impl Head {
     }
 }
 
-/// The digest of an area of this generation whose base has so many bytes, if these are there of it.
+/// The SHA-256 of the mark, of a generation and a size, and of the bytes of a base.
 pub fn digest(generation: u64, size: u64, base: &[u8]) -> [u8; 32]
     ensures { result ≡ sha256 (sized_bytes generation size ++ base.now) }
 {
