@@ -3,6 +3,10 @@ pub mod Pieces
 pub mod Listing
 pub mod Items
 pub mod Sweeping
+pub mod Grouping
+pub mod Slots
+pub mod Numbering
+pub mod Errands
 pub mod Totals
 pub mod Fronts
 pub mod Loads

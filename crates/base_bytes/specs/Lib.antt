@@ -3,3 +3,4 @@ pub mod Sound
 pub mod Rules
 pub mod Spelling
 pub mod Told
+pub mod Tallies

@@ -120,9 +120,9 @@ fn fleet_of(course: Course, timing: Timing, load: &Load, planets: &[Planet]) -> 
     })
 }
 
-// Whose the planet at a place is, of planets that rise. It looks at a number of them that grows with the logarithm of how many
-// there are.
-fn owner_at(planets: &[Planet], at: Coord) -> Option<Player>
+/// Whose the planet at a place is, of planets that rise. It looks at a number of them that grows with the logarithm of how many
+/// there are.
+pub fn owner_at(planets: &[Planet], at: Coord) -> Option<Player>
     ensures owner { (owner : Player) → DoRise planets.now → IsOwnAt planets.now owner at → result ≡ Some owner }
     ensures own { IfSome result (λ owner. IsOwnAt planets.now owner at) }
 {

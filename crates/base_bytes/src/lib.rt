@@ -5,7 +5,9 @@ mod accounts;
 mod base;
 mod caps;
 mod fields;
+mod fleet_rules;
 mod fleets;
+mod group_rules;
 mod head;
 mod laws;
 mod limits;
@@ -17,6 +19,9 @@ mod places;
 mod planets;
 mod queues;
 mod ranges;
+#[cfg(test)]
+mod rule_tests;
+mod slot_rules;
 #[cfg(test)]
 mod tests;
 mod writing;

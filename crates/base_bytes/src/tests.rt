@@ -13,9 +13,9 @@ use std::alloc::Global;
 use std::test::Fail;
 use tick_model::Debris;
 
-const HOME: Coord = Coord { g: 1, s: 2, p: 3 };
+pub const HOME: Coord = Coord { g: 1, s: 2, p: 3 };
 
-const THERE: Coord = Coord {
+pub const THERE: Coord = Coord {
     g: 9,
     s: 499,
     p: 15,
@@ -36,7 +36,7 @@ fn base(alloc: Global) -> Base {
 }
 
 #[tactic(auto, using(account_cell::proofs::Queues::caps_fresh))]
-fn account(alloc: Global) -> Account {
+pub fn account(alloc: Global) -> Account {
     Account {
         player: Player { k: 65535 },
         techs: Techs { n: [0; 14] },
