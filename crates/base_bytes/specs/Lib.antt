@@ -4,3 +4,4 @@ pub mod Rules
 pub mod Spelling
 pub mod Told
 pub mod Tallies
+pub mod Kept

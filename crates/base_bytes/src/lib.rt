@@ -1,6 +1,7 @@
 //! A universe at one moment, as it lies in memory, its bytes, and the laws of what it stands for.
 #![tactic(auto)]
 
+mod account_rules;
 mod accounts;
 mod base;
 mod caps;
@@ -16,7 +17,9 @@ mod numbers;
 mod parsing;
 mod parts;
 mod places;
+mod planet_rules;
 mod planets;
+mod queue_rules;
 mod queues;
 mod ranges;
 #[cfg(test)]
