@@ -30,3 +30,4 @@ pub mod Bases
 pub mod Fresh
 pub mod Limited
 pub mod Timed
+pub mod Checks

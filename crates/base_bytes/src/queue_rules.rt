@@ -87,6 +87,7 @@ impl Queued for Batch {
 }
 
 /// Whether each item has the number of one of the first so many requests.
+#[tactic(auto, using(crate::proofs::Checks::one_more, crate::proofs::Checks::not_all))]
 pub fn are_drawn<T: Queued>(number: u64, items: &[T]) -> bool
     ensures { IsTrue result ↔ All (λ item. (1 ≤ T.number_of item) × (T.number_of item ≤ number)) items.now }
 {
@@ -124,6 +125,7 @@ pub fn others_wait<T: Queued>(items: &[T]) -> bool
     }
 }
 
+#[tactic(auto, using(crate::proofs::Checks::one_more, crate::proofs::Checks::not_all))]
 fn are_idle<T: Queued>(items: &[T]) -> bool
     ensures { IsTrue result ↔ All T.IsIdle items.now }
 {
