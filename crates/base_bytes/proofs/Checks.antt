@@ -30,13 +30,13 @@ module _ {X : Type 0} (P : X → Type 0) where
 
 module _ {X : Type 0} (f : X → Item) where
   -- the first of a queue
-  pub runs-from-first : (moment : ℕ) (xs : List X) → ((x : X) → Some x ≡ slice_get xs 0 → moment < (f x).second) → RunsAfter moment (map f xs)
-  runs-from-first moment [] first = tt
-  runs-from-first moment (x ∷ xs) first = first x refl
+  pub runs_from_first : (moment : ℕ) (xs : List X) → ((x : X) → Some x ≡ slice_get xs 0 → moment < (f x).second) → RunsAfter moment (map f xs)
+  runs_from_first moment [] first = tt
+  runs_from_first moment (x ∷ xs) first = first x refl
 
-  pub first-runs : (moment : ℕ) (xs : List X) → RunsAfter moment (map f xs) → (x : X) → Some x ≡ slice_get xs 0 → moment < (f x).second
-  first-runs moment [] runs x is = absurd cc
-  first-runs moment (y ∷ ys) runs x is = subst (λ (z : X). moment < (f z).second) (sym (one x y is)) runs
+  pub first_runs : (moment : ℕ) (xs : List X) → RunsAfter moment (map f xs) → (x : X) → Some x ≡ slice_get xs 0 → moment < (f x).second
+  first_runs moment [] runs x is = absurd cc
+  first_runs moment (y ∷ ys) runs x is = subst (λ (z : X). moment < (f z).second) (sym (one x y is)) runs
     where
       one : (a b : X) → Some a ≡ Some b → a ≡ b
       one a b same = cc

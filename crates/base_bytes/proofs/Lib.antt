@@ -31,3 +31,5 @@ pub mod Fresh
 pub mod Limited
 pub mod Timed
 pub mod Checks
+pub mod PlanetChecks
+pub mod AccountChecks

@@ -11,6 +11,7 @@ use crate::queue_rules::{are_drawn, others_wait, runs_after};
 use account_cell::Account;
 
 /// Whether each account is as the rules say, at a moment and after so many requests.
+#[tactic(auto, using(crate::proofs::Checks::one_more, crate::proofs::Checks::not_all))]
 pub fn all_accounts_keep(moment: u64, number: u64, accounts: &[Account]) -> bool
     ensures { IsTrue result ↔ All (AccountKeeps moment number) accounts.now }
 {
@@ -23,6 +24,7 @@ pub fn all_accounts_keep(moment: u64, number: u64, accounts: &[Account]) -> bool
 }
 
 /// Whether an account is as the rules say, at a moment and after so many requests.
+#[tactic(auto, using(crate::proofs::AccountChecks::research_timed))]
 pub fn account_keeps(moment: u64, number: u64, account: &Account) -> bool
     ensures { IsTrue result ↔ AccountKeeps moment number account.now }
 {
@@ -34,6 +36,7 @@ pub fn account_keeps(moment: u64, number: u64, account: &Account) -> bool
 }
 
 /// Whether the technologies of an account keep their caps, and its queue waits in turn.
+#[tactic(auto, using(crate::proofs::AccountChecks::techs_kept, crate::proofs::AccountChecks::kept_techs, crate::proofs::AccountChecks::idle_kept))]
 pub fn keeps_techs(account: &Account) -> bool
     ensures { IsTrue result ↔ KeepsTechs (account_fields account.now) (research_of account.now) }
 {
@@ -51,6 +54,7 @@ fn has_few_planets(account: &Account) -> bool
 }
 
 /// Whether an account researches on its own planets alone.
+#[tactic(auto, using(crate::proofs::Checks::one_more, crate::proofs::Checks::not_all))]
 pub fn is_at_home(account: &Account) -> bool
     ensures { IsTrue result ↔ IsAtHome account.now }
 {
@@ -70,6 +74,7 @@ pub fn account_runs_after(moment: u64, account: &Account) -> bool
 }
 
 /// Whether each item of an account's queue has the number of one of the first so many requests.
+#[tactic(auto, using(crate::proofs::AccountChecks::research_drawn, crate::proofs::AccountChecks::drawn_research))]
 pub fn account_is_drawn(number: u64, account: &Account) -> bool
     ensures { IsTrue result ↔ All (IsDrawn number) (research_of account.now) }
 {

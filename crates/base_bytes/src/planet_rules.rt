@@ -20,6 +20,7 @@ use catalog::{CAP, Kind, Unit};
 use planet_cell::{Batch, Planet, place_of_unit};
 
 /// Whether each planet is as the rules say, at a moment and after so many requests.
+#[tactic(auto, using(crate::proofs::Checks::one_more, crate::proofs::Checks::not_all))]
 pub fn all_planets_keep(moment: u64, number: u64, planets: &[Planet]) -> bool
     ensures { IsTrue result ↔ All (PlanetKeeps moment number) planets.now }
 {
@@ -53,6 +54,7 @@ pub fn is_in_range(planet: &Planet) -> bool
 }
 
 /// Whether a planet keeps its levels, its fields and its domes, even if all that is queued is built, and its queues wait in turn.
+#[tactic(auto, using(crate::proofs::PlanetChecks::levels_kept))]
 pub fn keeps_levels(planet: &Planet) -> bool
     ensures { IsTrue result ↔ KeepsLevels (fields_of planet.now) (queue_of planet.now) }
 {
@@ -65,6 +67,7 @@ fn has_fields(planet: &Planet) -> bool
     usize::from(planet.used_fields()) + planet.buildings.len() <= usize::from(planet.fields)
 }
 
+#[tactic(auto, using(crate::proofs::PlanetChecks::domes))]
 fn has_lone_domes(planet: &Planet) -> bool
     ensures { IsTrue result ↔ ((kind : Kind) → is_dome kind ≡ true → count_of (fields_of planet.now) kind + ordered_units kind (batches_of planet.now) ≤ 1) }
 {
@@ -78,6 +81,7 @@ fn has_lone_domes(planet: &Planet) -> bool
 }
 
 // Whether the units of a kind are at most one, those that the yard is to build included.
+#[tactic(auto, using(crate::proofs::PlanetChecks::ordered_items), unfolding(tick_model::specs::Yards::count_of))]
 fn is_lone(planet: &Planet, unit: Unit) -> bool
     ensures { IsTrue result ↔ (count_of (fields_of planet.now) unit.kind + ordered_units unit.kind (batches_of planet.now) ≤ 1) }
 {
@@ -100,6 +104,7 @@ fn ordered(unit: Unit, yard: &[Batch]) -> u64
 }
 
 // Whether the first building is the next level of its kind, and the others wait.
+#[tactic(auto, using(crate::proofs::PlanetChecks::building_rises, crate::proofs::PlanetChecks::rises_building, crate::proofs::PlanetChecks::rises_none))]
 fn rises(planet: &Planet) -> bool
     ensures { IsTrue result ↔ Rises (level_of (fields_of planet.now)) (buildings_of planet.now) }
 {
@@ -110,6 +115,7 @@ fn rises(planet: &Planet) -> bool
         && others_wait(&planet.buildings)
 }
 
+#[tactic(auto, using(crate::proofs::PlanetChecks::yard_waits, crate::proofs::PlanetChecks::yard_idle))]
 fn yard_waits(planet: &Planet) -> bool
     ensures { IsTrue result ↔ OthersWait (batches_of planet.now) }
 {
@@ -124,6 +130,7 @@ pub fn planet_runs_after(moment: u64, planet: &Planet) -> bool
 }
 
 /// Whether each item of a planet's queues has the number of one of the first so many requests.
+#[tactic(auto, using(crate::proofs::PlanetChecks::items_drawn, crate::proofs::PlanetChecks::drawn_items))]
 pub fn planet_is_drawn(number: u64, planet: &Planet) -> bool
     ensures { IsTrue result ↔ All (IsDrawn number) (planet_items planet.now) }
 {
@@ -131,6 +138,7 @@ pub fn planet_is_drawn(number: u64, planet: &Planet) -> bool
 }
 
 /// Whether each item of a planet's queues has its time, at a moment.
+#[tactic(auto, using(crate::proofs::PlanetChecks::items_timed, crate::proofs::PlanetChecks::timed_items))]
 pub fn planet_is_timed(moment: u64, planet: &Planet) -> bool
     ensures { IsTrue result ↔ All (IsTimed moment) (planet_items planet.now) }
 {
@@ -138,6 +146,7 @@ pub fn planet_is_timed(moment: u64, planet: &Planet) -> bool
 }
 
 // Whether the next unit of each batch is done at most its seconds after a moment.
+#[tactic(auto, using(crate::proofs::Checks::one_more, crate::proofs::Checks::not_all))]
 fn are_timed(moment: u64, yard: &[Batch]) -> bool
     ensures { IsTrue result ↔ All (λ batch. batch.second ≤ moment + batch.unit_seconds) yard.now }
 {
