@@ -35,16 +35,18 @@ one-item a b same = cc
 rises : (level : Kind → ℕ) (player : Player) (items : List ResearchItem) (first : ResearchItem) → Some first ≡ slice_get items 0 → first.level ≡ level first.kind.kind + 1
     → All (λ (item : ResearchItem). (item.level ≡ 0) × (item.second ≡ 0)) (drop 1 items) → Rises level (map (research_item player) items)
 rises level player [] first is up idle = tt
-rises level player (head ∷ later) first is up idle =
-    (subst (λ (item : ResearchItem). item.level ≡ level item.kind.kind + 1) (one-item first head is) up,
-    All-map Waits (research_item player) later (All-weaker _ (λ (item : ResearchItem). Waits (research_item player item)) (research-waits player) later idle))
+rises level player (head ∷ later) first is up idle = (
+  subst (λ (item : ResearchItem). item.level ≡ level item.kind.kind + 1) (one-item first head is) up,
+  All-map Waits (research_item player) later (All-weaker _ (λ (item : ResearchItem). Waits (research_item player item)) (research-waits player) later idle),
+)
 
 risen : (level : Kind → ℕ) (player : Player) (items : List ResearchItem) (first : ResearchItem) → Some first ≡ slice_get items 0 → Rises level (map (research_item player) items)
     → (first.level ≡ level first.kind.kind + 1) × All (λ (item : ResearchItem). (item.level ≡ 0) × (item.second ≡ 0)) (drop 1 items)
 risen level player [] first is up = absurd cc
-risen level player (head ∷ later) first is up =
-    (subst (λ (item : ResearchItem). item.level ≡ level item.kind.kind + 1) (sym (one-item first head is)) up.0,
-    All-weaker (λ (item : ResearchItem). Waits (research_item player item)) _ (research-idle player) later (all-mapped Waits (research_item player) later up.1))
+risen level player (head ∷ later) first is up = (
+  subst (λ (item : ResearchItem). item.level ≡ level item.kind.kind + 1) (sym (one-item first head is)) up.0,
+  All-weaker (λ (item : ResearchItem). Waits (research_item player item)) _ (research-idle player) later (all-mapped Waits (research_item player) later up.1),
+)
 
 rises-none : (level : Kind → ℕ) (player : Player) (items : List ResearchItem) → None ≡ slice_get items 0 → Rises level (map (research_item player) items)
 rises-none level player [] is = tt

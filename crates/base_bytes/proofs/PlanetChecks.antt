@@ -77,9 +77,10 @@ yard_idle at batches waits = All-weaker (λ (batch : Batch). Waits (batch_item_o
 pub building_rises : (level : Kind → ℕ) (at : Coord) (items : List BuildingItem) (first : BuildingItem) → Some first ≡ slice_get items 0 → first.level ≡ level first.kind.kind + 1
     → All (λ (item : BuildingItem). (item.level ≡ 0) × (item.second ≡ 0)) (drop 1 items) → Rises level (map (item_of at) items)
 building_rises level at [] first is up idle = tt
-building_rises level at (head ∷ later) first is up idle =
-    (subst (λ (item : BuildingItem). item.level ≡ level item.kind.kind + 1) (one first head is) up,
-    All-map Waits (item_of at) later (All-weaker _ (λ (item : BuildingItem). Waits (item_of at item)) (building-waits at) later idle))
+building_rises level at (head ∷ later) first is up idle = (
+  subst (λ (item : BuildingItem). item.level ≡ level item.kind.kind + 1) (one first head is) up,
+  All-map Waits (item_of at) later (All-weaker _ (λ (item : BuildingItem). Waits (item_of at item)) (building-waits at) later idle),
+)
   where
     one : (a b : BuildingItem) → Some a ≡ Some b → a ≡ b
     one a b same = cc
@@ -87,9 +88,10 @@ building_rises level at (head ∷ later) first is up idle =
 pub rises_building : (level : Kind → ℕ) (at : Coord) (items : List BuildingItem) (first : BuildingItem) → Some first ≡ slice_get items 0 → Rises level (map (item_of at) items)
     → (first.level ≡ level first.kind.kind + 1) × All (λ (item : BuildingItem). (item.level ≡ 0) × (item.second ≡ 0)) (drop 1 items)
 rises_building level at [] first is rises = absurd cc
-rises_building level at (head ∷ later) first is rises =
-    (subst (λ (item : BuildingItem). item.level ≡ level item.kind.kind + 1) (sym (one first head is)) rises.0,
-    All-weaker (λ (item : BuildingItem). Waits (item_of at item)) _ (building-idle at) later (all-mapped Waits (item_of at) later rises.1))
+rises_building level at (head ∷ later) first is rises = (
+  subst (λ (item : BuildingItem). item.level ≡ level item.kind.kind + 1) (sym (one first head is)) rises.0,
+  All-weaker (λ (item : BuildingItem). Waits (item_of at item)) _ (building-idle at) later (all-mapped Waits (item_of at) later rises.1),
+)
   where
     one : (a b : BuildingItem) → Some a ≡ Some b → a ≡ b
     one a b same = cc

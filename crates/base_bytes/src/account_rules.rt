@@ -9,6 +9,7 @@ ghost use Rattle.tick_model.specs.Limits.{KeepsTechs};
 use crate::limits::MOST_OWNED;
 use crate::queue_rules::{are_drawn, others_wait, runs_after};
 use account_cell::Account;
+use catalog::TECHNOLOGIES;
 
 /// Whether each account is as the rules say, at a moment and after so many requests.
 #[tactic(auto, using(crate::proofs::Checks::one_more, crate::proofs::Checks::not_all))]
@@ -28,7 +29,8 @@ pub fn all_accounts_keep(moment: u64, number: u64, accounts: &[Account]) -> bool
 pub fn account_keeps(moment: u64, number: u64, account: &Account) -> bool
     ensures { IsTrue result ↔ AccountKeeps moment number account.now }
 {
-    keeps_techs(account)
+    account.techs.n.len() == TECHNOLOGIES.len()
+        && keeps_techs(account)
         && has_few_planets(account)
         && is_at_home(account)
         && account_runs_after(moment, account)
@@ -40,7 +42,7 @@ pub fn account_keeps(moment: u64, number: u64, account: &Account) -> bool
 pub fn keeps_techs(account: &Account) -> bool
     ensures { IsTrue result ↔ KeepsTechs (account_fields account.now) (research_of account.now) }
 {
-    let Some(first) = account.research.first() else {
+    let Some(first) = account.first_research() else {
         return true;
     };
     u16::from(first.level) == u16::from(account.techs.level(first.kind)) + 1

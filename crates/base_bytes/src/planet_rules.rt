@@ -16,7 +16,7 @@ ghost use Rattle.tick_model.specs.declared.codes.TheConstants.{MOST_QUEUED};
 
 use crate::limits::MOST_FIELDS;
 use crate::queue_rules::{are_drawn, others_wait, runs_after};
-use catalog::{CAP, Kind, Unit};
+use catalog::{BUILDINGS, CAP, Kind, Unit, WORKS};
 use planet_cell::{Batch, Planet, place_of_unit};
 
 /// Whether each planet is as the rules say, at a moment and after so many requests.
@@ -43,11 +43,13 @@ pub fn planet_keeps(moment: u64, number: u64, planet: &Planet) -> bool
         && planet_is_timed(moment, planet)
 }
 
-/// Whether the fields of a planet and its debris are in their ranges.
+/// Whether a planet is in its ranges: its levels, its tenths, its fields and its debris.
 pub fn is_in_range(planet: &Planet) -> bool
     ensures { IsTrue result ↔ IsInRange planet.now }
 {
-    1 <= planet.fields
+    planet.levels.len() == BUILDINGS.len()
+        && planet.tenths.len() == WORKS.len()
+        && 1 <= planet.fields
         && planet.fields <= MOST_FIELDS
         && planet.debris.metal <= CAP
         && planet.debris.crystal <= CAP
