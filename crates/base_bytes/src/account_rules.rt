@@ -1,5 +1,6 @@
 // Whether an account by itself is as the rules say.
 ghost use Rattle.std.specs.Prelude.{◌≡◌, ◌↔◌, ◌≤◌, All, IsTrue, length};
+ghost use Rattle.std.specs.List.{Contains};
 ghost use Rattle.account_cell.specs.Account.{account_fields, research_of};
 ghost use Rattle.base_bytes.specs.Kept.{AccountKeeps, IsAtHome, IsDrawn};
 ghost use Rattle.base_bytes.specs.Sound.{RunsAfter};
@@ -8,7 +9,9 @@ ghost use Rattle.tick_model.specs.Limits.{KeepsTechs};
 
 use crate::limits::MOST_OWNED;
 use crate::queue_rules::{are_drawn, others_wait, runs_after};
+use crate::ranges::are_so_many;
 use account_cell::Account;
+use base_ids::Coord;
 use catalog::TECHNOLOGIES;
 
 /// Whether each account is as the rules say, at a moment and after so many requests.
@@ -29,7 +32,7 @@ pub fn all_accounts_keep(moment: u64, number: u64, accounts: &[Account]) -> bool
 pub fn account_keeps(moment: u64, number: u64, account: &Account) -> bool
     ensures { IsTrue result ↔ AccountKeeps moment number account.now }
 {
-    account.techs.n.len() == TECHNOLOGIES.len()
+    are_so_many(&account.techs.n, TECHNOLOGIES.len())
         && keeps_techs(account)
         && has_few_planets(account)
         && is_at_home(account)
@@ -61,11 +64,17 @@ pub fn is_at_home(account: &Account) -> bool
     ensures { IsTrue result ↔ IsAtHome account.now }
 {
     'items: for item in &account.research {
-        if !account.planets.contains(&item.at) {
+        if !has_place(&account.planets, item.at) {
             return false;
         }
     }
     true
+}
+
+fn has_place(places: &[Coord], at: Coord) -> bool
+    ensures { IsTrue result ↔ Contains places.now at }
+{
+    places.contains(&at)
 }
 
 /// Whether the research of an account comes due past a moment.

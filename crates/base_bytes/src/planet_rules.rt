@@ -16,6 +16,7 @@ ghost use Rattle.tick_model.specs.declared.codes.TheConstants.{MOST_QUEUED};
 
 use crate::limits::MOST_FIELDS;
 use crate::queue_rules::{are_drawn, others_wait, runs_after};
+use crate::ranges::are_so_many;
 use catalog::{BUILDINGS, CAP, Kind, Unit, WORKS};
 use planet_cell::{Batch, Planet, place_of_unit};
 
@@ -47,8 +48,8 @@ pub fn planet_keeps(moment: u64, number: u64, planet: &Planet) -> bool
 pub fn is_in_range(planet: &Planet) -> bool
     ensures { IsTrue result ↔ IsInRange planet.now }
 {
-    planet.levels.len() == BUILDINGS.len()
-        && planet.tenths.len() == WORKS.len()
+    are_so_many(&planet.levels, BUILDINGS.len())
+        && are_so_many(&planet.tenths, WORKS.len())
         && 1 <= planet.fields
         && planet.fields <= MOST_FIELDS
         && planet.debris.metal <= CAP

@@ -31,6 +31,13 @@ fn are_within_ten(numbers: &[u8]) -> bool
     numbers.iter().all(|n| *n <= 10)
 }
 
+/// Whether there are so many numbers.
+pub fn are_so_many(numbers: &[u8], count: usize) -> bool
+    ensures { IsTrue result ↔ (length numbers.now ≡ count) }
+{
+    numbers.len() == count
+}
+
 /// Whether no stock is above the cap.
 pub fn is_within_cap(stock: Resources) -> bool
     ensures { IsTrue result ↔ IsWithinCap stock }
