@@ -1,6 +1,8 @@
 -- What is tested of an account's queue holds of the items that it stands for.
 use Rattle.std.proofs.Common.{◌≡◌, ℕ, ◌+◌, ◌≤◌, true, List, [], ◌∷◌, map, drop, refl, get_or, sym, subst, arith}
-use Rattle.std.specs.Prelude.{All, None, Some, slice_get}
+use Rattle.std.specs.Prelude.{◌==◌, ◌&&◌, All, None, Some, slice_get}
+use Rattle.std.specs.Bool.{Decides}
+use Rattle.std.proofs.lemmas.Bool.Decides.{nat_tests}
 use Rattle.std.proofs.lemmas.List.Elements.{All-map, All-weaker}
 use Rattle.account_cell.proofs.Counts.{queued_items}
 use Rattle.account_cell.specs.Account.{account_fields, research_item, research_of}
@@ -8,6 +10,8 @@ use Rattle.account_cell.specs.declared.account.Account.{Account}
 use Rattle.account_cell.specs.declared.research_item.ResearchItem.{ResearchItem}
 use Rattle.base_bytes.proofs.Checks.{all-mapped}
 use Rattle.base_bytes.specs.Kept.{IsDrawn}
+use Rattle.base_bytes.proofs.Owned.{place-one, place-same}
+use Rattle.base_ids.specs.declared.coord.Coord.{Coord}
 use Rattle.base_ids.specs.declared.player.Player.{Player}
 use Rattle.catalog.specs.Classes.{is_technology}
 use Rattle.catalog.specs.Levels.{level_cap_of}
@@ -75,3 +79,10 @@ timed moment player item = record { ends = item.in_time; paced = omega arith; ne
 -- what is researched has its time by its kind
 pub research_timed : (moment : ℕ) (account : Account) → All (IsTimed moment) (research_of account)
 research_timed moment account = All-map (IsTimed moment) (research_item account.player) account.research.items (λ k d below. timed moment account.player (get_or account.research.items k d))
+
+-- the test of two places tells whether they are one
+pub tells_places : (a b : Coord) → Decides (a.g == b.g && (a.s == b.s && a.p == b.p)) (a ≡ b)
+tells_places a b = (
+  λ yes_true. place-one a b (grind (arith, nat_tests)),
+  λ same. let there = place-same a b same in grind (arith, nat_tests),
+)
