@@ -31,16 +31,16 @@ use Rattle.tick_model.specs.Universe.{Fleet, Item}
 pub each-of : {A : Type 0} (P : A → Type 0) (xs : List A) → ((x : A) → IsIn x xs → P x) → All P xs
 each-of P xs holds = λ i d below. holds (get_or xs i d) (at-place xs i d below)
 
-in-left : {A : Type 0} (x : A) (xs ys : List A) → IsIn x xs → IsIn x (xs ++ ys)
+pub in-left : {A : Type 0} (x : A) (xs ys : List A) → IsIn x xs → IsIn x (xs ++ ys)
 in-left x [] ys is = absurd is
 in-left x (first ∷ xs) ys (inl same) = inl same
 in-left x (first ∷ xs) ys (inr later) = inr (in-left x xs ys later)
 
-in-right : {A : Type 0} (x : A) (xs ys : List A) → IsIn x ys → IsIn x (xs ++ ys)
+pub in-right : {A : Type 0} (x : A) (xs ys : List A) → IsIn x ys → IsIn x (xs ++ ys)
 in-right x [] ys is = is
 in-right x (first ∷ xs) ys is = inr (in-right x xs ys is)
 
-in-flat : {A B : Type 0} (f : A → List B) (y : B) (x : A) (xs : List A) → IsIn x xs → IsIn y (f x) → IsIn y (flat_map f xs)
+pub in-flat : {A B : Type 0} (f : A → List B) (y : B) (x : A) (xs : List A) → IsIn x xs → IsIn y (f x) → IsIn y (flat_map f xs)
 in-flat f y x [] is has = absurd is
 in-flat f y x (first ∷ xs) (inl same) has = in-left y (f first) (flat_map f xs) (subst (λ z. IsIn y (f z)) same has)
 in-flat f y x (first ∷ xs) (inr later) has = in-right y (f first) (flat_map f xs) (in-flat f y x xs later has)

@@ -33,3 +33,10 @@ pub mod Timed
 pub mod Checks
 pub mod PlanetChecks
 pub mod AccountChecks
+pub mod Neighbours
+pub mod Deciding
+pub mod Meeting
+pub mod Gathering
+pub mod Naming
+pub mod Assembling
+pub mod Spelt

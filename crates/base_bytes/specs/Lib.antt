@@ -5,3 +5,4 @@ pub mod Spelling
 pub mod Told
 pub mod Tallies
 pub mod Kept
+pub mod Counting

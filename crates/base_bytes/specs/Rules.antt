@@ -1,6 +1,7 @@
 -- Which bases bytes can spell. Rule: docs/FORMATS.md, "What bytes spell a base".
-use Rattle.std.specs.Prelude.{◌≡◌, ◌≤◌, List, All, length, map}
+use Rattle.std.specs.Prelude.{◌≡◌, ℕ, ◌<◌, ◌≤◌, ◌^◌, List, All, length, map}
 use Rattle.base_bytes.specs.Sound.{IsSound}
+use Rattle.base_bytes.specs.Spelling.{base_spelling}
 use Rattle.base_bytes.specs.declared.base.Base.{Base}
 use Rattle.base_bytes.specs.declared.limits.TheConstants.{MOST_FIELDS, MOST_OWNED, MOST_PLANETS, MOST_PLAYERS}
 use Rattle.catalog.specs.declared.amounts.TheConstants.{CAP}
@@ -29,3 +30,9 @@ pub record IsBase (base : Base) : Type 0 where
   pub ranges : All IsInRange base.planets.items
   pub levels : All (λ account. length account.techs.n ≡ length TECHNOLOGIES) base.accounts.items
   pub fleets : (held : List FleetRecord) × (base.fleets ≡ map fleet_seen held)
+
+-- the bytes spell a base of the rules, whose seed has 64 bits
+pub record Spells (bytes : List ℕ) (base : Base) : Type 0 where
+  pub rules : IsBase base
+  pub seed : base.seed < 2 ^ 64
+  pub is : bytes ≡ base_spelling base

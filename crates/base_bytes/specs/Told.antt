@@ -157,9 +157,10 @@ pub record IsTold (base told : Base) : Type 0 where
   pub planets : AllZip AreSame base.planets.items told.planets.items
   pub fleets : told.fleets ≡ base.fleets
 
--- A base that is read has no more accounts and planets than it may have. Each account has the places of its planets, and the target of
--- each fleet is a planet of the player whom it names.
+-- A base that is read has a seed of 64 bits, and no more accounts and planets than it may have. Each account has the places of its
+-- planets, and the target of each fleet is a planet of the player whom it names.
 pub record IsRead (base : Base) : Type 0 where
+  pub seed : base.seed < 2 ^ 64
   pub players : length base.accounts.items ≤ MOST_PLAYERS
   pub planets : length base.planets.items ≤ MOST_PLANETS
   pub listed : All (λ account. account.planets.items ≡ places_owned account.player base.planets.items) base.accounts.items

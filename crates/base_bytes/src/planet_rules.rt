@@ -17,7 +17,7 @@ ghost use Rattle.tick_model.specs.declared.codes.TheConstants.{MOST_QUEUED};
 use crate::limits::MOST_FIELDS;
 use crate::queue_rules::{are_drawn, others_wait, runs_after};
 use crate::ranges::are_so_many;
-use catalog::{BUILDINGS, CAP, Kind, Unit, WORKS};
+use catalog::{BUILDINGS, CAP, Kind, UNIT_KINDS, Unit, WORKS};
 use planet_cell::{Batch, Planet, place_of_unit};
 
 /// Whether each planet is as the rules say, at a moment and after so many requests.
@@ -38,6 +38,7 @@ pub fn planet_keeps(moment: u64, number: u64, planet: &Planet) -> bool
     ensures { IsTrue result ↔ PlanetKeeps moment number planet.now }
 {
     is_in_range(planet)
+        && are_so_many(&planet.units, UNIT_KINDS.len())
         && keeps_levels(planet)
         && planet_runs_after(moment, planet)
         && planet_is_drawn(number, planet)

@@ -31,11 +31,11 @@ fn are_within_ten(numbers: &[u8]) -> bool
     numbers.iter().all(|n| *n <= 10)
 }
 
-/// Whether there are so many numbers.
-pub fn are_so_many(numbers: &[u8], count: usize) -> bool
-    ensures { IsTrue result ↔ (length numbers.now ≡ count) }
+/// Whether there are so many items.
+pub fn are_so_many<T>(items: &[T], count: usize) -> bool
+    ensures { IsTrue result ↔ (length items.now ≡ count) }
 {
-    numbers.len() == count
+    items.len() == count
 }
 
 /// Whether no stock is above the cap.

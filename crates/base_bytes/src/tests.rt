@@ -1,7 +1,7 @@
 // What no clause says: bytes that were worked out by hand.
 use crate::parsing::parse;
 use crate::writing::{put_batch, put_building, put_research};
-use crate::{Base, write};
+use crate::{Base, read, write};
 use account_cell::{Account, ResearchItem};
 use base_ids::{Coord, Player};
 use base_text::Bytes;
@@ -9,7 +9,7 @@ use catalog::{Amounts, Building, Kind, Mission, Ships, SpeedSetting, Technology,
 use fleet_rec::{Fleet, Fleets};
 use planet_cell::{Batch, BuildingItem, Planet};
 use rates::Resources;
-use std::alloc::Global;
+use std::alloc::{AllocError, Global};
 use std::test::Fail;
 use tick_model::Debris;
 
@@ -207,4 +207,31 @@ fn no_base_is_read_from_other_bytes(rt: HostRuntime) -> Result<(), Fail> {
         assert!(rt; parse(alloc, bytes.as_slice())?.is_none());
     }
     Ok(())
+}
+
+#[test]
+fn a_base_is_read_if_it_keeps_the_rules(rt: HostRuntime) -> Result<(), Fail> {
+    let alloc = rt.alloc();
+    let mut base = base(alloc);
+    base.accounts.push(account(alloc))?;
+    base.planets.push(planet(alloc))?;
+    let miscounted = write(alloc, &base)?;
+    assert!(rt; read(alloc, miscounted.as_slice())?.is_none());
+    let mut manned = planet(alloc);
+    manned.units = [12, 0, 0, 0, 0, 0, 0, 0, 0, 0, 0, 0, 0, 0, 0, 0, 0, 0, 0, 0, 0, 0];
+    base.planets = vec![in alloc; manned]?;
+    let mut bytes = write(alloc, &base)?;
+    assert!(rt; is_read_as(alloc, bytes.as_slice())?);
+    bytes.push(&[0])?;
+    assert!(rt; !is_read_as(alloc, bytes.as_slice())?);
+    Ok(())
+}
+
+// Whether these bytes spell a base, and that is spelled by them.
+fn is_read_as(alloc: Global, bytes: &[u8]) -> Result<bool, AllocError> {
+    let Some(base) = read(alloc, bytes)? else {
+        return Ok(false);
+    };
+    let again = write(alloc, &base)?;
+    Ok(again.as_slice() == bytes)
 }

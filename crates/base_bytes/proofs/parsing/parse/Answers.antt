@@ -1,4 +1,4 @@
-use Rattle.std.proofs.Common.{◌≡◌, ◌++◌, [], All, List, length, map, ap, arith, subst, sym, ◌∙◌}
+use Rattle.std.proofs.Common.{rules, ◌≡◌, ◌++◌, [], All, List, length, map, ap, arith, subst, sym, ◌∙◌}
 use Rattle.std.specs.List.{AllZip, flat_map}
 use Rattle.std.proofs.lemmas.List.{length-map}
 use Rattle.std.proofs.lemmas.List.Elements.{length_all_zip}
@@ -99,6 +99,7 @@ returns-clause-read c =
     let long = length_all_zip AreAlike c.in-Some-Some-2.accounts.items c.in_ok-accounts-2.accounts.items c.in_ok-accounts-2.ensures.alike in
     let named = λ (found : List Planet) (fleet : Fleet). IsOwnAt found fleet.target_owner fleet.target in
     record {
+      seed = search rules;
       players = omega (arith, accounts, long, c.in-Some-Some.sizes.few_accounts);
       planets = omega (arith, planets, c.in-Some-Some.sizes.few_planets);
       listed = subst (λ (found : List Planet). All (λ (account : Account). account.planets.items ≡ places_owned account.player found) c.in_ok-accounts-2.accounts.items) c.deref-2.ensures.value c.in_ok-accounts-2.ensures.places;

@@ -1,0 +1,7 @@
+use Rattle.std.proofs.Common.{take, true}
+use Rattle.planet_cell.specs.Planet.{batches_of}
+use Rattle.base_bytes.specs.Counting.{Meets}
+use Rattle.base_bytes.proofs.distinct.Met.meet_batches.Given as goal
+
+abbrev pub invariant-items : goal.invariant-items
+invariant-items l = Meets (take l.batch-index (batches_of l.planet)) l.fn.self l.self true

@@ -1,0 +1,24 @@
+use Rattle.std.proofs.Common.{refl, rules}
+use Rattle.std.proofs.lemmas.List.{get_or_default}
+use Rattle.planet_cell.specs.Planet.{item_of}
+use Rattle.planet_cell.specs.declared.building_item.BuildingItem.{BuildingItem}
+use Rattle.base_bytes.proofs.Meeting.{adds-building, met-all, met-next, met-stop, not-new, was-new}
+use Rattle.tick_model.specs.Universe.{Buildings}
+use Rattle.base_bytes.proofs.distinct.Met.meet_buildings.Goals as goal
+
+pub returns-then-not-branch : goal.returns-then-not-branch
+returns-then-not-branch c =
+    met-stop (item_of c.args.planet.now.at) Buildings (λ x. refl) c.args.planet.now.buildings.items c.deref-item-items.result.now c.items.item-index _ c.args.self.now c.items.self c.items.self
+    c.deref-item-items.ensures.value c.items-test.true (λ d. search (rules, get_or_default)) c.items.invariant
+    (not-new _ _ c.in_ok-insert.ensures.added c.if-not-branch.true)
+
+pub items-preserved : goal.items-preserved
+items-preserved c =
+    met-next (item_of c.args.planet.now.at) Buildings (λ x. refl) c.args.planet.now.buildings.items c.deref-item-items.result.now c.items.item-index _ c.args.self.now c.items.self _
+    c.deref-item-items.ensures.value c.items-test.true (λ d. search (rules, get_or_default)) c.items.invariant
+    (was-new _ _ c.in_ok-insert.ensures.added c.if-not-branch.false) (adds-building c.items.self c.insert.new.self _ c.in_ok-insert.ensures.updates)
+
+pub returns : goal.returns
+returns c =
+    met-all (item_of c.args.planet.now.at) c.args.planet.now.buildings.items c.deref-item-items.result.now c.items.item-index c.args.self.now c.items.self
+    c.deref-item-items.ensures.value c.items-test.false c.items.invariant
