@@ -90,9 +90,9 @@ each_keeps_of base fine =
     let before = flat_map research_of accounts in
     let behind = flat_map planet_items planets in
     let of-account : (P : Item → Type 0) → All P (all_items accounts planets) → (a : Account) → IsIn a accounts → All P (research_of a) =
-        λ P all a is. each-of P (research_of a) (λ item has. among P item (all_items accounts planets) all (in-left item before behind (in-flat research_of item a accounts is has))) in
+    λ P all a is. each-of P (research_of a) (λ item has. among P item (all_items accounts planets) all (in-left item before behind (in-flat research_of item a accounts is has))) in
     let of-planet : (P : Item → Type 0) → All P (all_items accounts planets) → (p : Planet) → IsIn p planets → All P (planet_items p) =
-        λ P all p is. each-of P (planet_items p) (λ item has. among P item (all_items accounts planets) all (in-right item before behind (in-flat planet_items item p planets is has))) in
+    λ P all p is. each-of P (planet_items p) (λ item has. among P item (all_items accounts planets) all (in-right item before behind (in-flat planet_items item p planets is has))) in
     record {
       accounts = each-of (AccountKeeps base.moment base.number) accounts (λ a is. record {
         levels = among (λ (x : Account). length x.techs.n ≡ length TECHNOLOGIES) a accounts fine.levels is;

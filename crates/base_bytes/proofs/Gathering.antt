@@ -93,9 +93,9 @@ planet-counts player planets i planet count below is so_far =
     let mine = λ (p : Planet). same_player p.owner player in
     let next = get_or planets i planet in
     let grows : sum_by units_counted (planets_owned player (take (i + 1) planets)) ≡ sum_by units_counted (planets_owned player (take i planets)) + (if mine next then units_counted next else 0) =
-        ap (sum_by units_counted) (filter_more mine planets i planet below)
-        ∙ sum_by-append units_counted (planets_owned player (take i planets)) (cond (mine next) (next ∷ []) [])
-        ∙ ap (λ n. sum_by units_counted (planets_owned player (take i planets)) + n) (one (mine next) next) in
+    ap (sum_by units_counted) (filter_more mine planets i planet below)
+    ∙ sum_by-append units_counted (planets_owned player (take i planets)) (cond (mine next) (next ∷ []) [])
+    ∙ ap (λ n. sum_by units_counted (planets_owned player (take i planets)) + n) (one (mine next) next) in
     let here : (if mine next then units_counted next else 0) ≡ (if mine planet then units_counted planet else 0) = ap (λ (p : Planet). if mine p then units_counted p else 0) (sym is) in
     cut-more (mine planet) count (units_owned player (take i planets) []) (units_counted planet) (units_owned player (take (i + 1) planets) []) (2 ^ 64 - 1) so_far (omega (arith, grows, here))
   where
@@ -110,7 +110,7 @@ pub fleet-counts : (player : Player) (planets : List Planet) (fleets : List Flee
 fleet-counts player planets fleets i fleet count below is so_far =
     let before = map fleet_seen (take i fleets) in
     let after : map fleet_seen (take (i + 1) fleets) ≡ before ++ fleet_seen fleet ∷ [] =
-        ap (map fleet_seen) (take_more fleets i fleet below ∙ ap (λ x. take i fleets ++ x ∷ []) (sym is)) ∙ map-append fleet_seen (take i fleets) (fleet ∷ []) in
+    ap (map fleet_seen) (take_more fleets i fleet below ∙ ap (λ x. take i fleets ++ x ∷ []) (sym is)) ∙ map-append fleet_seen (take i fleets) (fleet ∷ []) in
     let grows : sum_by (ships_of player) (map fleet_seen (take (i + 1) fleets)) ≡ sum_by (ships_of player) before + (if same_player fleet.owner player then sum fleet.ships.n else 0) =
-        ap (sum_by (ships_of player)) after ∙ sum_by_push (ships_of player) before (fleet_seen fleet) in
+    ap (sum_by (ships_of player)) after ∙ sum_by_push (ships_of player) before (fleet_seen fleet) in
     cut-more (same_player fleet.owner player) count (units_owned player planets before) (sum fleet.ships.n) (units_owned player planets (map fleet_seen (take (i + 1) fleets))) (2 ^ 64 - 1) so_far (omega (arith, grows))

@@ -20,11 +20,12 @@ pub named-answer : (accounts : List Account) (player : Player) (r : Result ℕ �
     → IsTrue found ↔ Contains (map (λ (a : Account). a.player) accounts) player
 named-answer accounts player r found rise within result is =
     let here = is ∙ searched (λ (a : Account). a.player) player_cmp player_before same_player players_follow accounts accounts player r rise refl within result in
-    let test = λ (a : Account). same_player player a.player in
-    (λ added.
-        let one = any-in test accounts (sym here ∙ added) in
-        subst (Contains (map (λ (a : Account). a.player) accounts)) (sym (player-one player one.0.player one.2))
-        (has-place one.0.player (map (λ (a : Account). a.player) accounts) (in-map (λ (a : Account). a.player) one.0 accounts one.1)),
-    λ has.
-        let one = from-map (λ (a : Account). a.player) player accounts (is-among player (map (λ (a : Account). a.player) accounts) has) in
-        here ∙ in-any test one.0 accounts one.1 (player-same player one.0.player one.2))
+    let test = λ (a : Account). same_player player a.player in (
+      λ added.
+          let one = any-in test accounts (sym here ∙ added) in
+          subst (Contains (map (λ (a : Account). a.player) accounts)) (sym (player-one player one.0.player one.2))
+          (has-place one.0.player (map (λ (a : Account). a.player) accounts) (in-map (λ (a : Account). a.player) one.0 accounts one.1)),
+      λ has.
+          let one = from-map (λ (a : Account). a.player) player accounts (is-among player (map (λ (a : Account). a.player) accounts) has) in
+          here ∙ in-any test one.0 accounts one.1 (player-same player one.0.player one.2),
+    )

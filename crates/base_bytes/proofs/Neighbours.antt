@@ -14,7 +14,7 @@ module _ {X : Type 0} (before : X → X → Bool) (through : (a b c : X) → bef
   further xs i zero d next below = subst (At xs i d) (omega arith) (next i d (omega (arith, below)))
   further xs i (suc n) d next below =
       let last : before (get_or xs (i + 1 + n) d) (get_or xs (i + 1 + suc n) d) ≡ true =
-          subst (At xs (i + 1 + n) d) (omega arith) (next (i + 1 + n) d (omega (arith, below))) in
+      subst (At xs (i + 1 + n) d) (omega arith) (next (i + 1 + n) d (omega (arith, below))) in
       through (get_or xs i d) (get_or xs (i + 1 + n) d) (get_or xs (i + 1 + suc n) d) (further xs i n d next (omega (arith, below))) last
 
   rises : (xs : List X) → AllAdjacentBelow (λ a b. before a b ≡ true) xs (length xs) → AllPairs (λ a b. before a b ≡ true) xs
@@ -26,8 +26,9 @@ module _ {X : Type 0} (before : X → X → Bool) (through : (a b c : X) → bef
   pub rises-answer : (xs : List X) (r : Bool) → IsAllAdjacentAnswer (λ a b r. r ≡ before a b) xs r → IsTrue r ↔ AllPairs (λ a b. before a b ≡ true) xs
   rises-answer xs true each = (λ yes. rises xs (λ k d below. sym (each k d below)), λ pairs. refl)
   rises-answer [] false each = absurd (omega (arith, each.1))
-  rises-answer (x ∷ xs) false each =
-      (λ no. absurd (cc no),
-      λ pairs.
-          let apart : false ≡ before (get_or (x ∷ xs) each.0 x) (get_or (x ∷ xs) (each.0 + 1) x) = each.2 x in
-          absurd (cc (apart ∙ pairs each.0 (each.0 + 1) x (omega arith) each.1)))
+  rises-answer (x ∷ xs) false each = (
+    λ no. absurd (cc no),
+    λ pairs.
+        let apart : false ≡ before (get_or (x ∷ xs) each.0 x) (get_or (x ∷ xs) (each.0 + 1) x) = each.2 x in
+        absurd (cc (apart ∙ pairs each.0 (each.0 + 1) x (omega arith) each.1)),
+  )

@@ -17,11 +17,7 @@ pub struct Met {
 }
 
 /// Whether no two items of one class bear the same number, in the queues of these accounts and planets.
-pub fn are_once(
-    alloc: Global,
-    accounts: &[Account],
-    planets: &[Planet],
-) -> Result<bool, AllocError>
+pub fn are_once(alloc: Global, accounts: &[Account], planets: &[Planet]) -> Result<bool, AllocError>
     ensures { IfOk result (λ once. IsTrue once ↔ AreOnce (all_items accounts.now planets.now)) }
 {
     let mut met = Met {

@@ -57,8 +57,10 @@ fn counts_fit(alloc: Global, base: &Base) -> Result<bool, AllocError>
     ensures { IfOk result (λ fit. IsTrue fit ↔ CountsFit base.now) }
 {
     let fleets = base.fleets.as_slice();
-    Ok(are_once(alloc, &base.accounts, &base.planets)?
-        && count_their_units(alloc, &base.accounts, &base.planets, fleets)?
-        && groups_fit(alloc, &base.fleets)?
-        && fleets_fit_slots(alloc, &base.accounts, &base.fleets)?)
+    Ok(
+        are_once(alloc, &base.accounts, &base.planets)?
+            && count_their_units(alloc, &base.accounts, &base.planets, fleets)?
+            && groups_fit(alloc, &base.fleets)?
+            && fleets_fit_slots(alloc, &base.accounts, &base.fleets)?,
+    )
 }

@@ -24,9 +24,7 @@ pub fn count_their_units(
     ensures { IfOk result (λ counted. IsTrue counted ↔ All (λ account. account.units ≡ units_owned account.player planets.now (map fleet_seen fleets.now)) accounts.now) }
 {
     let counts = units_by_owner(alloc, planets, fleets)?;
-    Ok(accounts
-        .iter()
-        .all(|account| count(&counts, account.player) == u64::from(account.units)))
+    Ok(accounts.iter().all(|account| count(&counts, account.player) == u64::from(account.units)))
 }
 
 // How many units each player has who has some, or 2^64 − 1 if there are more.
@@ -48,11 +46,7 @@ fn units_by_owner(
 }
 
 // A player has so many more units, but not more than 2^64 − 1.
-fn add_units(
-    counts: &mut BTreeMap<Player, u64>,
-    owner: Player,
-    more: u64,
-) -> Result<(), AllocError>
+fn add_units(counts: &mut BTreeMap<Player, u64>, owner: Player, more: u64) -> Result<(), AllocError>
     ensures { OnOk result ((player : Player) → count_in (get player_order counts.new player)
         ≡ (if same_player owner player then min (count_in (get player_order counts.old player) + more) (2 ^ 64 - 1) else count_in (get player_order counts.old player))) }
 {
