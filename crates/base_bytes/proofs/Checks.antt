@@ -1,8 +1,8 @@
 -- What holds of each element of a list, found by going over it; and what it says of the items that they stand for.
-use Rattle.std.proofs.Common.{◌≡◌, ℕ, ◌+◌, ◌<◌, ◌≤◌, List, [], ◌∷◌, ◌++◌, map, length, drop, get_or, refl, subst, sym}
-use Rattle.std.specs.Prelude.{◌↔◌, All, Some, slice_get}
+use Rattle.std.proofs.Common.{◌≡◌, ℕ, ◌+◌, ◌<◌, List, [], ◌∷◌, ◌++◌, map, length, drop, get_or, refl, subst, sym}
+use Rattle.std.specs.Prelude.{All, Some, slice_get}
 use Rattle.std.specs.List.{AllWithin}
-use Rattle.std.proofs.lemmas.List.Elements.{All-append, All-cons, All-get_or, All-head, All-map, All-nil, All-tail, AllWithin-more, at_read}
+use Rattle.std.proofs.lemmas.List.Elements.{All-cons, All-get_or, All-head, All-map, All-nil, All-tail, AllWithin-more, at_read}
 use Rattle.base_bytes.specs.Sound.{RunsAfter}
 use Rattle.tick_model.specs.Limits.{OthersWait, Waits}
 use Rattle.tick_model.specs.Universe.{Item}

@@ -1,6 +1,6 @@
 -- A planet or an account whose queues are empty keeps its levels.
-use Rattle.std.proofs.Common.{◌≡◌, ℕ, ◌+◌, ◌≤◌, true, List, [], length, map, arith, ap, sym, subst}
-use Rattle.account_cell.specs.Account.{account_fields, research_item, research_of}
+use Rattle.std.proofs.Common.{◌≡◌, ◌≤◌, true, List, [], length, map, arith, ap, sym, subst}
+use Rattle.account_cell.specs.Account.{account_fields, research_of}
 use Rattle.account_cell.specs.declared.account.Account.{Account}
 use Rattle.catalog.specs.Classes.{is_building}
 use Rattle.catalog.specs.Levels.{level_cap_of}

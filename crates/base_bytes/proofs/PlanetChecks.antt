@@ -1,12 +1,10 @@
 -- What is tested of a planet's queues holds of the items that they stand for.
-use Rattle.std.proofs.Common.{◌≡◌, ℕ, ◌+◌, ◌<◌, ◌≤◌, true, List, [], ◌∷◌, ◌++◌, map, drop, length, get_or, refl, ap, ◌∙◌, sym, subst, arith}
+use Rattle.std.proofs.Common.{◌≡◌, ℕ, ◌+◌, ◌≤◌, true, List, [], ◌∷◌, ◌++◌, map, drop, length, get_or, refl, ap, ◌∙◌, sym, subst, arith}
 use Rattle.std.specs.Prelude.{◌==◌, All, None, Some, if◌then◌else◌, slice_get, sum_by}
-use Rattle.std.proofs.lemmas.List.Elements.{All-append, All-from_recursion, All-map, All-weaker}
+use Rattle.std.proofs.lemmas.List.Elements.{All-append, All-map, All-weaker}
 use Rattle.std.proofs.lemmas.List.Sums.{sum_by-cons}
-use Rattle.base_bytes.proofs.Checks.{all-mapped, all-parts, first_runs, others-from-rest, rest-waits, runs_from_first}
-use Rattle.base_bytes.specs.Base.{planet_items}
+use Rattle.base_bytes.proofs.Checks.{all-mapped, all-parts, others-from-rest, rest-waits}
 use Rattle.base_bytes.specs.Kept.{IsDrawn}
-use Rattle.base_bytes.specs.Sound.{RunsAfter}
 use Rattle.base_ids.specs.declared.coord.Coord.{Coord}
 use Rattle.catalog.specs.Classes.{is_building}
 use Rattle.catalog.specs.Kinds.{kind_number}
@@ -22,7 +20,7 @@ use Rattle.tick_model.specs.Limits.{KeepsLevels, OthersWait, Rises, Waits, order
 use Rattle.tick_model.specs.Moments.{IsTimed}
 use Rattle.tick_model.specs.Production.{level_of}
 use Rattle.tick_model.specs.Refusals.{is_dome, queued, used_fields}
-use Rattle.tick_model.specs.Universe.{Buildings, Item, QueueClass, Yard}
+use Rattle.tick_model.specs.Universe.{Item}
 use Rattle.tick_model.specs.Yards.{count_of}
 
 -- Levels.

@@ -1,18 +1,14 @@
 -- The universe of a sound base has its items and its fleets in their times.
-use Rattle.std.proofs.Common.{◌≡◌, ◌≤◌, List, inl, inr, refl, ap, sym, subst}
-use Rattle.std.specs.Prelude.{map}
+use Rattle.std.proofs.Common.{◌≤◌, List, inl, inr, sym, subst}
 use Rattle.std.proofs.lemmas.List.Elements.{All-contains}
 use Rattle.account_cell.specs.Account.{research_item, research_of}
 use Rattle.account_cell.specs.declared.account.Account.{Account}
-use Rattle.account_cell.specs.declared.research_item.ResearchItem.{ResearchItem}
 use Rattle.base_bytes.specs.Base.{all_items, planet_items, universe_of}
 use Rattle.base_bytes.specs.Sound.{IsSound}
 use Rattle.base_bytes.specs.declared.base.Base.{Base}
 use Rattle.base_bytes.proofs.Among.{from-flat, from-map, has-place}
 use Rattle.base_bytes.proofs.Flying.{each-fleet}
 use Rattle.planet_cell.specs.Planet.{batch_item_of, batches_of, buildings_of, item_of}
-use Rattle.planet_cell.specs.declared.batch.Batch.{Batch}
-use Rattle.planet_cell.specs.declared.building_item.BuildingItem.{BuildingItem}
 use Rattle.planet_cell.specs.declared.planet.Planet.{Planet}
 use Rattle.std.specs.List.{flat_map}
 use Rattle.tick_model.proofs.Lists.{in-append}

@@ -1,5 +1,5 @@
 -- What holds of a base from the founding on.
-use Rattle.std.specs.Prelude.{◌≡◌, ℕ, ◌+◌, ◌≤◌, ◌<◌, ◌^◌, ◌==◌, ◌&&◌, List, [], ◌∷◌, true, false, filter, length, map, sum, sum_by, All, AllPairs}
+use Rattle.std.specs.Prelude.{◌≡◌, ℕ, ◌+◌, ◌≤◌, ◌<◌, ◌^◌, List, [], ◌∷◌, true, false, filter, length, map, sum, sum_by, All, AllPairs}
 use Rattle.std.specs.List.{Contains}
 use Rattle.account_cell.specs.Account.{account_fields, research_of}
 use Rattle.account_cell.specs.declared.account.Account.{Account}
@@ -16,7 +16,6 @@ use Rattle.catalog.specs.declared.ships.TheConstants.{SHIPS}
 use Rattle.flight.specs.Freight.{capacity_of}
 use Rattle.planet_cell.specs.Planet.{batches_of, buildings_of, fields_of, queue_of}
 use Rattle.planet_cell.specs.declared.planet.Planet.{Planet}
-use Rattle.reply_text.specs.declared.units.Units.{Units}
 use Rattle.tick_model.specs.declared.codes.TheConstants.{MOST_IN_GROUP}
 use Rattle.tick_model.specs.Limits.{KeepsLevels, KeepsTechs}
 use Rattle.tick_model.specs.Moments.{IsTimed}

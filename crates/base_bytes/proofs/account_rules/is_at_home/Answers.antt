@@ -1,8 +1,6 @@
 use Rattle.std.proofs.Common.{All, arith, refl, subst, sym}
 use Rattle.std.specs.List.{Contains}
-use Rattle.std.proofs.lemmas.List.Elements.{All-from_all_within}
 use Rattle.account_cell.specs.declared.research_item.ResearchItem.{ResearchItem}
-use Rattle.base_ids.specs.declared.coord.Coord.{Coord}
 use Rattle.base_bytes.proofs.Checks.{not_all, one_more}
 use Rattle.base_bytes.proofs.account_rules.is_at_home.Goals as goal
 

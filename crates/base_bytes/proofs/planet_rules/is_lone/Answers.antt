@@ -1,4 +1,4 @@
-use Rattle.std.proofs.Common.{◌≡◌, ◌+◌, ◌≤◌, List, ap, arith, rules, ◌∙◌}
+use Rattle.std.proofs.Common.{◌≡◌, List, ap, arith, rules, ◌∙◌}
 use Rattle.std.specs.Prelude.{◌==◌, if◌then◌else◌, sum_by}
 use Rattle.std.proofs.lemmas.Bool.Decides.{nat_tests}
 use Rattle.base_bytes.proofs.PlanetChecks.{ordered_items}
