@@ -217,11 +217,9 @@ fn a_base_is_read_if_it_keeps_the_rules(rt: HostRuntime) -> Result<(), Fail> {
     base.planets.push(planet(alloc))?;
     let miscounted = write(alloc, &base)?;
     assert!(rt; read(alloc, miscounted.as_slice())?.is_none());
-    let mut manned = planet(alloc);
-    manned.units = [
-        12, 0, 0, 0, 0, 0, 0, 0, 0, 0, 0, 0, 0, 0, 0, 0, 0, 0, 0, 0, 0, 0,
-    ];
-    base.planets = vec![in alloc; manned]?;
+    let mut idle = account(alloc);
+    idle.units = 0;
+    base.accounts = vec![in alloc; idle]?;
     let mut bytes = write(alloc, &base)?;
     assert!(rt; is_read_as(alloc, bytes.as_slice())?);
     bytes.push(&[0])?;
