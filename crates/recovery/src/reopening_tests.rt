@@ -136,6 +136,47 @@ fn a_bit_of_the_base_that_was_changed_is_damage(rt: HostRuntime) -> Result<(), F
     Ok(())
 }
 
+// Whether the smallest area may open so if a bit of the byte at a place was changed: without its gate and its mark it isn't open, its
+// digest tells of the head and of the base, and the last byte is the gate of a batch.
+fn tells_the_change(place: usize, bit: u32, opened: &Result<Outline, OpenFault>) -> bool {
+    match opened {
+        Err(OpenFault::NotFounded) => place < 9,
+        Err(OpenFault::Damaged { .. }) => 9 <= place && place < 109,
+        Err(OpenFault::BadEntry { at }) => place == 109 && bit == 0 && *at == 109,
+        Ok(found) => place == 109 && bit > 0 && *found == LEFT,
+        _ => false,
+    }
+}
+
+fn opening_changed(
+    alloc: Global,
+    area: &[u8],
+    place: usize,
+    change: u8,
+) -> Result<Result<Outline, OpenFault>, AllocError> {
+    let mut bytes = Vec::from_slice(alloc, area)?;
+    if let Some(byte) = bytes.get_mut(place) {
+        *byte ^= change;
+    }
+    opening(alloc, &bytes, b"")
+}
+
+#[test]
+fn no_changed_bit_opens_another_universe(rt: HostRuntime) -> Result<(), Fail> {
+    let area = area(rt.alloc(), &Head::of(1, &BASE), &BASE, b"\0")?;
+    assert_eq!(rt; area.len(), 110);
+    'places: for place in 0..110 {
+        'bits: for bit in 0..8 {
+            let opened = opening_changed(rt.alloc(), &area, place, 1 << bit)?;
+            assert!(rt;
+                tells_the_change(place, bit, &opened),
+                "bit {bit} of byte {place}"
+            );
+        }
+    }
+    Ok(())
+}
+
 #[test]
 fn an_area_that_ends_within_its_base_has_none(rt: HostRuntime) -> Result<(), Fail> {
     let ended = area(rt.alloc(), &Head::of(1, &BASE), &BASE, b"")?;
